@@ -1,6 +1,7 @@
 -- The answers of one row after the other, and what is not computed where no key asks for it.
 use Rattle.std.proofs.Common.{◌≡◌, ℕ, Bool, true, false, cond, ◌||◌, List, [], ◌∷◌, ◌++◌, Option, Some, None, option_map, is_some, refl, sym, ap, ◌∙◌, arith}
 use Rattle.std.specs.List.{list_any, list_all, filter_map}
+use Rattle.std.proofs.lemmas.Bool.{or_parts}
 use Rattle.std.proofs.lemmas.Bool.Decides.{nat_tests}
 use Rattle.dq_vr.specs.declared.Tag.{Tag}
 use Rattle.dq_vr.specs.Tags as tags
@@ -32,10 +33,6 @@ use Rattle.dq_find.proofs.Agreeing.{Agree, fits_alike, shown_alike}
 is_tag-sym : (a b : Tag) → is_tag a b ≡ is_tag b a
 is_tag-sym a b = grind (arith, nat_tests)
 
-some_or : (a b : Bool) → (a || b) ≡ false → (a ≡ false) × (b ≡ false)
-some_or true b h = absurd cc
-some_or false b h = (refl, h)
-
 missing_by : (b : Bool) (e : Element) (others : Option Element) → is_some (cond b (Some e) others) ≡ false → (b ≡ false) × (is_some others ≡ false)
 missing_by true e others h = absurd cc
 missing_by false e others h = (refl, h)
@@ -49,7 +46,7 @@ none_here : (listed : List Tag) (e : Element) (rest : ElementList)
     → (list_any (λ tag. is_tag tag e.tag) listed ≡ false) × (asks_none listed rest ≡ false)
 none_here [] e rest h = (refl, refl)
 none_here (tag ∷ others) e rest h =
-    let parts = some_or (is_some (cond (is_tag e.tag tag) (Some e) (element_at tag rest)))
+    let parts = or_parts (is_some (cond (is_tag e.tag tag) (Some e) (element_at tag rest)))
     (list_any (λ tag. is_some (cond (is_tag e.tag tag) (Some e) (element_at tag rest))) others) h in
     let here = missing_by (is_tag e.tag tag) e (element_at tag rest) parts.0 in
     let later = none_here others e rest parts.1 in
@@ -67,27 +64,11 @@ module _ (listed : List Tag) (sent : ElementList) (within : (tag : Tag) → list
       let parts = none_here listed (record { tag = t; vr = v; value = Items (list_of items) }) rest h in
       (element_stays t held sent (within t parts.0), agree_unasked rest parts.1)
 
-last_of : (a b c d : Bool) → (a || (b || (c || (d || false)))) ≡ false → d ≡ false
-last_of false false false d h = or_nothing d h
-  where
-    or_nothing : (x : Bool) → (x || false) ≡ false → x ≡ false
-    or_nothing true k = k
-    or_nothing false k = k
-last_of true b c d h = absurd cc
-last_of false true c d h = absurd cc
-last_of false false true d h = absurd cc
-
-first_three : (a b c d : Bool) → (a || (b || (c || (d || false)))) ≡ false → (a || (b || (c || false))) ≡ false
-first_three false false false d h = refl
-first_three true b c d h = absurd cc
-first_three false true c d h = absurd cc
-first_three false false true d h = absurd cc
-
 computed_tags_alone : (records : List Record) (level : Level) (key : List ℕ) (tag : Tag) → list_any (λ one. is_tag one tag) computed_tags ≡ false
     → list_any (has_tag tag) (elements_of (computed_keys records level key)) ≡ false
 unfolding computed_keys study_values series_values
-computed_tags_alone records Study key tag h = grind (arith, nat_tests, first_three)
-computed_tags_alone records Series key tag h = grind (arith, nat_tests, last_of)
+computed_tags_alone records Study key tag h = grind (arith, nat_tests)
+computed_tags_alone records Series key tag h = grind (arith, nat_tests)
 computed_tags_alone records Image key tag h = refl
 
 pub stays : (records : List Record) (level : Level) (key : List ℕ) (held : ElementList) (tag : Tag) → list_any (λ one. is_tag one tag) computed_tags ≡ false

@@ -7,6 +7,7 @@ use Rattle.std.specs.List.{AllByRecursion, list_any, filter_map, cons_option}
 use Rattle.std.specs.List.Sorted.{IsStrictlySortedBy}
 use Rattle.std.specs.Str.{bytes_eq}
 use Rattle.std.specs.declared.cmp.Ordering.TheVariants.{Less}
+use Rattle.std.proofs.lemmas.Bool.{or_right}
 use Rattle.std.proofs.lemmas.Slice.Eq.{bytes_eq-Decides}
 use Rattle.dq_list.specs.Octets.{octets_of_vectors}
 use Rattle.dq_list.specs.Among.{IsAmong}
@@ -171,10 +172,6 @@ module _ (institution : List ℕ) (rows : List Row) (query : Query) (rising : Is
       by_first true is h rest = inl (sym ((bytes_eq-Decides key uid).0 is))
       by_first false is h rest = inr (rest h)
 
-  or_right : (a b : Bool) → b ≡ true → (a || b) ≡ true
-  or_right true b h = refl
-  or_right false b h = h
-
   one_of_to : (key : List ℕ) (uids : List (List ℕ)) → IsAmong key uids → list_any (λ uid. bytes_eq key uid) uids ≡ true
   one_of_to key [] h = absurd h
   one_of_to key (uid ∷ uids) (inl e) = (λ i. (bytes_eq-Decides key uid).1 (sym e) i || list_any (λ uid. bytes_eq key uid) uids)
@@ -230,14 +227,10 @@ named_candidates institution rows query uids rising ordered same looked =
     ∙ ap (λ (b : Bool). filter (λ (r : Record). if b then has_one_of (own_values query) r else is_asked query.level query.keys r) records) (sym looked))
 
 -- a row that was looked up
-under_by : (institution : List ℕ) (r : Record) (b : Bool) → (if b then Some (row_of institution r) else None) ≡ option_map (row_of institution) (if b then Some r else None)
-under_by institution r true = refl
-under_by institution r false = refl
-
 row_under : (institution : List ℕ) (level : Level) (keys : ElementList) (o : Option Record)
     → looked_up level keys (option_map (row_of institution) o) ≡ option_map (row_of institution) (under level keys o)
 row_under institution level keys None = refl
-row_under institution level keys (Some r) = under_by institution r (is_under level keys r)
+row_under institution level keys (Some r) = grind arith
 
 pub looked_up_is : (institution : List ℕ) (records : List Record) (query : Query) (uid : List ℕ) (kind : Kind) (found given : Option Row)
     → kind ≡ kind_of query.level → found ≡ option_map (row_of institution) (record_at kind uid records)

@@ -24,21 +24,9 @@ pub not_passed : (joined : Bool) (place : Place) (tag : Tag) → is_key place ta
 not_passed true place tag is none = rw (is, none) refl
 not_passed false place tag is none = rw (is) refl
 
-or_parts : (a b : Bool) → (a || b) ≡ false → (a ≡ false) × (b ≡ false)
-or_parts true b h = absurd cc
-or_parts false b h = (refl, h)
-
 none_of : (p : Tag → Bool) (first others : List Tag) → list_any p (first ++ others) ≡ false → (list_any p first ≡ false) × (list_any p others ≡ false)
 none_of p [] others h = (refl, h)
-none_of p (x ∷ first) others h =
-    let parts = or_parts (p x) (list_any p (first ++ others)) h in
-    let rest = none_of p first others parts.1 in
-    ((λ i. parts.0 i || rest.0 i), rest.1)
-
-no_start : (a b : Bool) → (a || (b || false)) ≡ false → (a || b) ≡ false
-no_start true b h = absurd cc
-no_start false true h = absurd cc
-no_start false false h = refl
+none_of p (x ∷ first) others h = grind (arith, none_of p first others)
 
 abbrev pub starts : List Tag
 starts = scheduled_procedure_step_start_date ∷ scheduled_procedure_step_start_time ∷ []
@@ -46,7 +34,7 @@ starts = scheduled_procedure_step_start_date ∷ scheduled_procedure_step_start_
 -- a key that is none of those and none of some others
 pub stands_alone : (joined : Bool) (others : List Tag) (tag : Tag) → is_left (other_than_keys ++ (others ++ starts)) tag ≡ false
     → (is_left others tag ≡ false) × (is_matched_elsewhere Outer joined tag ≡ false)
-stands_alone joined others tag h = grind (arith, none_of, not_passed, no_start)
+stands_alone joined others tag h = grind (arith, none_of, not_passed)
 
 -- what does not hold of one does not hold of the other
 pub unless : (a b : Bool) → (a ≡ true → b ≡ true) → b ≡ false → a ≡ false

@@ -1,12 +1,12 @@
 -- What a date or a time, or a range of them, is met by.
 use Rattle.std.proofs.Common.{◌≡◌, ℕ, ℤ, ◌≤◌, ◌≤ℤ◌, Bool, true, false, ◌↔◌, List, [], ◌∷◌, Option, Some, None, refl, sym, subst, arith}
 use Rattle.std.specs.Prelude.{◌&&◌, int_le, nat_le}
+use Rattle.std.proofs.lemmas.Bool.{and_parts}
 use Rattle.std.proofs.lemmas.Bool.Decides.{nat_tests}
 use Rattle.dq_value.specs.Day.{day}
 use Rattle.dq_value.specs.Time.{Span, span}
 use Rattle.dq_value.specs.Range.{range_ends, end_of}
 use Rattle.dq_match.specs.Ranges.{Bounds, bounds, has_day, has_time, date_meets, time_meets, both as both_read}
-use Rattle.dq_match.proofs.KnownKeys.{both}
 use Rattle.dq_match.proofs.Moments.{le_true, true_le, nat_le_true, true_nat_le, has_day_between, day_some}
 
 test_by : {A : Type 0} (b c : Bool) → b ≡ c → (c ≡ true) ↔ A → (b ≡ true) ↔ A
@@ -23,7 +23,7 @@ and_true false h = h
 -- ---- times
 
 between : (first last time : Span) → (has_time (Some first, Some last) time ≡ true) ↔ ((first.0 ≤ time.0) × (time.0 ≤ last.1))
-between first last time = grind (arith, nat_tests, both, nat_le_true, true_nat_le)
+between first last time = grind (arith, nat_tests, and_parts, nat_le_true, true_nat_le)
 
 le_is : (a b : ℕ) → (nat_le a b ≡ true) ↔ (a ≤ b)
 le_is a b = (nat_le_true a b, true_nat_le a b)

@@ -1,8 +1,8 @@
 -- A record fits keys where each that stands alone is met, and the period, if there is one, too.
-use Rattle.std.proofs.Common.{◌≡◌, ◌↔◌, Bool, true, false, ◌||◌, ◌&&◌, inl, inr, List, [], ◌∷◌, Option, Some, None, is_some, refl, sym, ap, ◌∙◌, arith}
+use Rattle.std.proofs.Common.{◌≡◌, ◌↔◌, Bool, true, false, ◌||◌, inl, inr, List, [], ◌∷◌, Option, Some, None, is_some, refl, sym, ap, ◌∙◌, arith}
 use Rattle.std.specs.Prelude.{IfSome}
 use Rattle.std.specs.List.{list_any}
-use Rattle.std.proofs.lemmas.Bool.{and_parts}
+use Rattle.std.proofs.lemmas.Bool.{and_parts, and_from}
 use Rattle.dq_list.specs.Among.{IsAmong}
 use Rattle.dq_vr.specs.declared.Tag.{Tag}
 use Rattle.dq_dataset.specs.Tree.{ElementList, no_elements, element, sequence, ItemList, item}
@@ -31,10 +31,6 @@ either_way : (passed met : Bool) → (passed ≡ false → met ≡ true) → (pa
 either_way true met h = refl
 either_way false met h = h refl
 
-and_both : (a b : Bool) → a ≡ true → b ≡ true → (a && b) ≡ true
-and_both true b is h = h
-and_both false b is h = cc
-
 module _ (place : Place) (held : ElementList) (joined : Bool) where
   first_met : (key : Element) (rest : ElementList) → (is_matched_elsewhere place joined key.tag || meets key (element_at key.tag held)) ≡ true
       → AllAreMet place held joined (elements_of rest) → AllAreMet place held joined (key ∷ elements_of rest)
@@ -58,12 +54,12 @@ module _ (place : Place) (held : ElementList) (joined : Bool) where
   pub each_to : (keys : ElementList) → AllAreMet place held joined (elements_of keys) → each_met keys place held joined ≡ true
   each_to no_elements all = refl
   each_to (element t v o rest) all =
-      and_both (is_matched_elsewhere place joined t || octets_meet v o (element_octets (element_at t held))) (each_met rest place held joined)
+      and_from (is_matched_elsewhere place joined t || octets_meet v o (element_octets (element_at t held))) (each_met rest place held joined)
       (either_way (is_matched_elsewhere place joined t) (octets_meet v o (element_octets (element_at t held)))
       (all (record { tag = t; vr = v; value = Octets o }) (inl refl)))
       (each_to rest (λ key h. all key (inr h)))
   each_to (sequence t v items rest) all =
-      and_both (is_matched_elsewhere place joined t || items_meet items (items_in (element_at t held))) (each_met rest place held joined)
+      and_from (is_matched_elsewhere place joined t || items_meet items (items_in (element_at t held))) (each_met rest place held joined)
       (either_way (is_matched_elsewhere place joined t) (items_meet items (items_in (element_at t held)))
       (λ none. same_items t items ∙ all (record { tag = t; vr = v; value = Items (list_of items) }) (inl refl) none))
       (each_to rest (λ key h. all key (inr h)))
@@ -76,7 +72,7 @@ with_from (Some inside) met h = let parts = and_parts inside (met true) h in (pa
 
 with_to : (p : Option Bool) (met : Bool → Bool) → met (is_some p) ≡ true → IfSome p (λ inside. inside ≡ true) → with_period p met ≡ true
 with_to None met h in_period = h
-with_to (Some inside) met h in_period = and_both inside (met true) in_period h
+with_to (Some inside) met h in_period = and_from inside (met true) in_period h
 
 pub fits_each : (place : Place) (keys held : ElementList) → (all_met place keys held ≡ true) ↔ (EachIsMet place keys held × PeriodIsMet keys held)
 fits_each place keys held = grind (arith, with_from, each_from, with_to, each_to)

@@ -1,5 +1,6 @@
 -- A value is met by itself.
-use Rattle.std.proofs.Common.{◌≡◌, ℕ, ◌≤◌, Bool, true, false, nat_eq, nat_le, ◌||◌, List, [], ◌∷◌, Some, None, refl, arith}
+use Rattle.std.proofs.Common.{◌≡◌, ℕ, ◌≤◌, Bool, true, false, nat_eq, nat_le, List, [], ◌∷◌, Some, None, refl, arith}
+use Rattle.std.proofs.lemmas.Bool.{or_left, or_right}
 use Rattle.std.proofs.lemmas.Bool.Decides.{nat_tests}
 use Rattle.dq_value.specs.Time.{span}
 use Rattle.dq_value.specs.Range.{range_ends}
@@ -13,14 +14,6 @@ nat_itself n = grind (arith, nat_tests)
 
 true_nat_le : (a b : ℕ) → a ≤ b → nat_le a b ≡ true
 true_nat_le a b h = grind (arith, nat_tests)
-
-or_right : (a b : Bool) → b ≡ true → (a || b) ≡ true
-or_right true b h = refl
-or_right false b h = h
-
-or_left : (a b : Bool) → a ≡ true → (a || b) ≡ true
-or_left true b h = refl
-or_left false b h = cc
 
 -- a run may be empty
 run_of_none : (test : List ℕ → Bool) (text : List ℕ) → test text ≡ true → after_run test text ≡ true

@@ -1,5 +1,6 @@
 -- The data dictionary has every tag that is supported.
-use Rattle.std.proofs.Common.{◌≡◌, Bool, true, false, cond, ◌||◌, ◌&&◌, List, [], ◌∷◌, refl, subst, arith, is_some, inl, inr, ◌⊎◌}
+use Rattle.std.proofs.Common.{◌≡◌, Bool, true, false, cond, List, [], ◌∷◌, refl, subst, arith, is_some, inl, inr}
+use Rattle.std.proofs.lemmas.Bool.{and_parts, or_cases}
 use Rattle.std.proofs.lemmas.Bool.Decides.{nat_tests}
 use Rattle.std.specs.List.{list_all}
 use Rattle.dq_vr.specs.declared.Tag.{Tag}
@@ -11,27 +12,17 @@ use Rattle.dq_match.specs.declared.supported.KeyScope.{KeyScope}
 use Rattle.dq_match.specs.declared.supported.KeyScope.TheVariants.{Identifier, Step, Code, Reference, Other}
 use Rattle.dq_match.specs.Keys.{is_tag, other_than_keys}
 use Rattle.dq_match.specs.Identifiers.{HasKnownTags, HaveKnownTags}
+use Rattle.dq_match.proofs.OneValue.{same_tag}
 use Rattle.dq_match.specs.Supported.{key_tags, leaves, is_tag_among, is_supported, below, supported_part, supported_items, step_keys, code_keys, reference_keys}
 
 abbrev are_known : List Tag → Bool
 are_known listed = list_all (λ tag. is_some (known_vr tag)) listed
 
-pub same_tag : (a b : Tag) → is_tag a b ≡ true → a ≡ b
-same_tag a b h = grind (arith, nat_tests)
-
-pub both : (a b : Bool) → (a && b) ≡ true → (a ≡ true) × (b ≡ true)
-both true b h = (refl, h)
-both false b h = absurd (cc)
-
-pub either : (a b : Bool) → (a || b) ≡ true → (a ≡ true) ⊎ (b ≡ true)
-either true b h = inl refl
-either false b h = inr h
-
 among_known : (tag : Tag) (listed : List Tag) → are_known listed ≡ true → is_tag_among tag listed ≡ true → is_some (known_vr tag) ≡ true
 among_known tag [] known h = cc
 among_known tag (one ∷ others) known h =
-    let parts = both (is_some (known_vr one)) (are_known others) known in
-    elim (either (is_tag one tag) (is_tag_among tag others) h) [
+    let parts = and_parts (is_some (known_vr one)) (are_known others) known in
+    elim (or_cases (is_tag one tag) (is_tag_among tag others) h) [
       | inl here ↦ subst (λ (t : Tag). is_some (known_vr t) ≡ true) (same_tag one tag here) parts.0
       | inr later ↦ among_known tag others parts.1 later
     ]
@@ -68,7 +59,7 @@ left_known Entry tag h = grind (arith, nat_tests, among_known, others_known)
 
 supported_known : (scope : KeyScope) (tag : Tag) → is_supported scope tag ≡ true → is_some (known_vr tag) ≡ true
 unfolding is_supported
-supported_known (Identifier list) tag h = grind (arith, nat_tests, either, among_known, keys_known, left_known)
+supported_known (Identifier list) tag h = grind (arith, nat_tests, or_cases, among_known, keys_known, left_known)
 supported_known Step tag h = among_known tag step_keys step_known h
 supported_known Code tag h = among_known tag code_keys code_known h
 supported_known Reference tag h = among_known tag reference_keys reference_known h

@@ -27,7 +27,7 @@ use Rattle.dq_match.specs.Values.{octets_meet}
 use Rattle.dq_match.specs.Keys.{is_tag}
 use Rattle.dq_match.specs.Matching.{meets}
 use Rattle.dq_match.specs.AsLent.{is_left, is_met_at_once, are_the_value, value_asked, is_met_by, meets_keys, all_meet}
-use Rattle.dq_match.proofs.KnownKeys.{same_tag}
+use Rattle.dq_match.proofs.OneValue.{same_tag}
 use Rattle.dq_match.proofs.DataSets.{follows-trans}
 
 -- ---- octets with a fault meet all keys

@@ -1,15 +1,15 @@
 -- Ranges of dates as an order of days, and periods as an order of moments.
-use Rattle.std.proofs.Common.{◌≡◌, ℕ, ℤ, ◌≤◌, ◌≤ℤ◌, ◌<ℤ◌, Bool, true, false, cond, nat_le, ◌||◌, ◌&&◌, ◌↔◌, ◌⊎◌, List, [], ◌∷◌, Some, None, refl, ap, subst, arith}
+use Rattle.std.proofs.Common.{◌≡◌, ℕ, ℤ, ◌≤◌, ◌≤ℤ◌, ◌<ℤ◌, Bool, true, false, cond, nat_le, ◌&&◌, ◌↔◌, ◌⊎◌, List, [], ◌∷◌, Some, None, refl, ap, subst, arith}
 use Rattle.std.specs.Prelude.{int_le, int_lt}
 use Rattle.std.specs.Ordering.{int_eq, is_eq}
 use Rattle.std.specs.declared.cmp.Ordering.TheVariants.{Less, Equal, Greater}
+use Rattle.std.proofs.lemmas.Bool.{or_left, or_right, and_parts, or_cases}
 use Rattle.std.proofs.lemmas.Int.{ints}
 use Rattle.std.proofs.lemmas.Bool.Decides.{nat_tests}
 use Rattle.dq_value.specs.Day.{day, date_in}
 use Rattle.dq_value.specs.Time.{Span}
 use Rattle.dq_value.specs.Range.{range_ends, end_of}
 use Rattle.dq_match.specs.Ranges.{Bounds, bounds, unless_open, has_day, has_time, date_meets, is_from, is_until}
-use Rattle.dq_match.proofs.KnownKeys.{both, either}
 
 pub le_true : (a b : ℤ) → int_le a b ≡ true → a ≤ℤ b
 le_true a b h = grind (arith, ints)
@@ -18,7 +18,7 @@ pub true_le : (a b : ℤ) → a ≤ℤ b → int_le a b ≡ true
 true_le a b h = grind (arith, ints)
 
 pub has_day_between : (first last date : ℤ) → (has_day (Some first, Some last) date ≡ true) ↔ ((first ≤ℤ date) × (date ≤ℤ last))
-has_day_between first last date = grind (arith, nat_tests, both, le_true, true_le)
+has_day_between first last date = grind (arith, nat_tests, and_parts, le_true, true_le)
 
 lt_true : (a b : ℤ) → int_lt a b ≡ true → a <ℤ b
 lt_true a b h = grind (arith, ints)
@@ -49,24 +49,16 @@ nat_le_true a b h = grind (arith, nat_tests)
 pub true_nat_le : (a b : ℕ) → a ≤ b → nat_le a b ≡ true
 true_nat_le a b h = grind (arith, nat_tests)
 
-or_left : (a b : Bool) → a ≡ true → (a || b) ≡ true
-or_left true b h = refl
-or_left false b h = absurd cc
-
-or_right : (a b : Bool) → b ≡ true → (a || b) ≡ true
-or_right true b h = refl
-or_right false b h = h
-
 -- a moment is at or after another: by day, and then by microsecond
 pub is_from_is_order : (first : ℤ) (time : Span) (date : ℤ) (microsecond : ℕ)
     → (is_from (Some first) (Some time) date microsecond ≡ true) ↔ ((first <ℤ date) ⊎ ((first ≡ date) × (time.0 ≤ microsecond)))
 is_from_is_order first time date microsecond =
-    grind (arith, nat_tests, either, lt_true, both, eq_true, nat_le_true, or_left, true_lt, or_right, true_eq, true_nat_le)
+    grind (arith, nat_tests, or_cases, lt_true, and_parts, eq_true, nat_le_true, or_left, true_lt, or_right, true_eq, true_nat_le)
 
 pub is_until_is_order : (last : ℤ) (time : Span) (date : ℤ) (microsecond : ℕ)
     → (is_until (Some last) (Some time) date microsecond ≡ true) ↔ ((date <ℤ last) ⊎ ((date ≡ last) × (microsecond ≤ time.1)))
 is_until_is_order last time date microsecond =
-    grind (arith, nat_tests, either, lt_true, both, eq_true, nat_le_true, or_left, true_lt, or_right, true_eq, true_nat_le)
+    grind (arith, nat_tests, or_cases, lt_true, and_parts, eq_true, nat_le_true, or_left, true_lt, or_right, true_eq, true_nat_le)
 
 -- ---- the two halves of a range
 

@@ -39,10 +39,7 @@ use Rattle.dq_match.proofs.SeveralValues.{plain_meets}
 -- ---- an element with one value
 
 pub same_tag : (a b : Tag) → is_tag a b ≡ true → a ≡ b
-same_tag a b h =
-    let group : a.group ≡ b.group = grind (arith, nat_tests) in
-    let number : a.element ≡ b.element = grind (arith, nat_tests) in
-    λ i. record { group = group i; element = number i }
+same_tag a b h = grind (arith, nat_tests)
 
 -- the element with a tag has a VR, and octets that hold exactly one value
 pub record HasOne (vr : Vr) (tag : Tag) (d : ElementList) (value : List ℕ) : Type 0 where

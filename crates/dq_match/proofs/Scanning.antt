@@ -1,5 +1,6 @@
 -- A pattern that goes along a text.
 use Rattle.std.proofs.Common.{◌≡◌, ℕ, zero, suc, ◌+◌, ◌≤◌, Bool, true, false, nat_eq, ◌||◌, ◌&&◌, List, [], ◌∷◌, length, drop, refl, sym, ap, ◌∙◌, subst, arith, length-drop}
+use Rattle.std.proofs.lemmas.Bool.{and_parts, or_right}
 use Rattle.std.proofs.lemmas.Bool.Decides.{nat_tests}
 use Rattle.dq_match.specs.declared.wildcards.Casing.{Casing}
 use Rattle.dq_match.specs.declared.wildcards.Scan.{Scan}
@@ -15,10 +16,6 @@ pub record IsAlong (casing : Casing) (pattern text wanted left : List ℕ) : Typ
   pub no_longer : length wanted ≤ length pattern
   pub leads : (start : List ℕ) → wild casing pattern start ≡ true → wild casing wanted (drop count start) ≡ true
   pub as_well : wild casing pattern text ≡ wild casing wanted left
-
-and_right : (a b : Bool) → (a && b) ≡ true → b ≡ true
-and_right true b h = h
-and_right false b h = cc
 
 not_same : (a b : ℕ) → (a ≡ b → ⊥) → nat_eq a b ≡ false
 not_same a b differ = grind (arith, nat_tests)
@@ -39,7 +36,7 @@ after_one_rest first test text count h = by_rest (drop count text) refl h
   where
     by_rest : (left : List ℕ) → drop count text ≡ left → after_one first test left ≡ true → test (drop (count + 1) text) ≡ true
     by_rest [] e k = cc
-    by_rest (x ∷ xs) e k = ap test (drop_one count text x xs e) ∙ and_right (first x) (test xs) k
+    by_rest (x ∷ xs) e k = ap test (drop_one count text x xs e) ∙ (and_parts (first x) (test xs) k).1
 
 pub IsAlong-more : (casing : Casing) (pattern text wanted left : List ℕ) (first octet : ℕ) (others rest : List ℕ)
     → IsAlong casing pattern text wanted left → wanted ≡ first ∷ others → left ≡ octet ∷ rest → (first ≡ any_run → ⊥)
@@ -66,10 +63,6 @@ after_run-drop : (test : List ℕ → Bool) (count : ℕ) (text : List ℕ) → 
 after_run-drop test zero text h = h
 after_run-drop test (suc count) [] h = h
 after_run-drop test (suc count) (x ∷ xs) h = or_right (test (x ∷ xs)) (after_run test xs) (after_run-drop test count xs h)
-  where
-    or_right : (a b : Bool) → b ≡ true → (a || b) ≡ true
-    or_right true b k = refl
-    or_right false b k = k
 
 tail_of_drop : (count : ℕ) (x : ℕ) (xs : List ℕ) → drop 1 (drop count (x ∷ xs)) ≡ drop count xs
 tail_of_drop zero x xs = refl

@@ -1,6 +1,7 @@
 -- What is shown of a record is a data set, and is put together key by key.
 use Rattle.std.proofs.Common.{◌≡◌, ℕ, ◌-◌, ◌+◌, ◌<◌, Bool, true, false, cond, not, ◌||◌, List, [], ◌∷◌, ◌++◌, Option, Some, None, option_map, map, filter, length, get_or, drop, refl, sym, ap, ◌∙◌, subst, arith, is_some, append_assoc}
 use Rattle.std.specs.List.{list_all}
+use Rattle.std.proofs.lemmas.Bool.{and_parts}
 use Rattle.dq_vr.specs.declared.Tag.{Tag}
 use Rattle.dq_vr.specs.declared.Vr.{Vr}
 use Rattle.dq_vr.specs.declared.Vr.TheVariants.{CS}
@@ -23,7 +24,7 @@ use Rattle.dq_match.specs.Keys.{is_tag, is_key}
 use Rattle.dq_match.specs.Identifiers.{HasKnownTags}
 use Rattle.dq_match.specs.Matching.{all_met}
 use Rattle.dq_match.specs.Responses.{put, or_empty, has_no_elements, cut_value, with_cut, shown_keys, shown_items, cut_keys, cut_by, shown_element, unless_empty, character_set, put_first, before, shown_elements, shown_data_set}
-use Rattle.dq_match.proofs.KnownKeys.{same_tag, both}
+use Rattle.dq_match.proofs.OneValue.{same_tag}
 use Rattle.dq_match.proofs.DataSets.{after_earlier, elements_by}
 use Rattle.dq_dataset.proofs.Places.{from_place}
 
@@ -70,15 +71,10 @@ cut_by_test : (b : Bool) (levels : ℕ) (f : ElementList → ElementList) (d : E
 cut_by_test true levels f d cut h k = (h, k)
 cut_by_test false levels f d cut h k = k
 
-map_cond : (b : Bool) (f : ElementList → ElementList) (d : ElementList) (ds : List ElementList)
-    → map f (cond b (d ∷ ds) ds) ≡ cond b (f d ∷ map f ds) (map f ds)
-map_cond true f d ds = refl
-map_cond false f d ds = refl
-
 cut_facts : (levels : ℕ) (f : ElementList → ElementList) (test : ElementList → Bool) (items : List ElementList) → KeepsFacts levels f
     → AreItems levels (items_of items) → AreItems levels (items_of (map f (filter test items)))
 cut_facts levels f test [] keeps h = tt
-cut_facts levels f test (d ∷ ds) keeps h = grind (arith, map_cond, cut_by_test, cut_facts levels f test ds keeps h.1)
+cut_facts levels f test (d ∷ ds) keeps h = grind (arith, cut_by_test, cut_facts levels f test ds keeps h.1)
 
 items_by : (b : Bool) (levels : ℕ) (whole cut : List ElementList) → AreItems levels (items_of whole) → AreItems levels (items_of cut)
     → AreItems levels (items_of (cond b whole cut))
@@ -153,7 +149,7 @@ above_all : (listed : List Entry) (tag : Tag) → list_all (λ entry. is_below s
 unfolding vr_in
 above_all [] tag h k = absurd cc
 above_all (entry ∷ others) tag h k =
-    let parts = both (is_below specific_character_set entry.0) (list_all (λ entry. is_below specific_character_set entry.0) others) h in
+    let parts = and_parts (is_below specific_character_set entry.0) (list_all (λ entry. is_below specific_character_set entry.0) others) h in
     above_by (is_tag entry.0 tag) entry.0 tag entry.1 (vr_in others tag) refl parts.0 (λ known. above_all others tag parts.1 known) k
 
 rest_above : list_all (λ entry. is_below specific_character_set entry.0) (others_of dictionary) ≡ true
@@ -233,15 +229,9 @@ shown_is_whole identifier held h known k = grind (arith, first_facts, set_facts,
 
 -- ---- key by key
 
-cut_by_first : (b : Bool) (keys : ElementList) (held : List ElementList)
-    → cond b held (map (λ d. shown_keys keys Inner d) (filter (λ d. all_met Inner keys d) held))
-    ≡ cut_by (cond b None (Some keys)) held
-cut_by_first true keys held = refl
-cut_by_first false keys held = refl
-
 shown_items-cut : (items held : List ElementList) → shown_items (items_of items) held ≡ cut_by (cut_keys (Items items)) held
 shown_items-cut [] held = refl
-shown_items-cut (keys ∷ others) held = cut_by_first (has_no_elements keys) keys held
+shown_items-cut (keys ∷ others) held = grind arith
 
 with_cut-whole : (t : Tag) (v : Vr) (x : Value) → with_cut (cut_by None) (record { tag = t; vr = v; value = x }) ≡ record { tag = t; vr = v; value = x }
 with_cut-whole t v (Octets o) = refl

@@ -1,13 +1,14 @@
 -- A universal key is met by every record.
-use Rattle.std.proofs.Common.{◌≡◌, ℕ, Bool, true, false, not, cond, nat_eq, ◌==◌, ◌||◌, ◌&&◌, List, [], ◌∷◌, Option, Some, None, length, map, refl, ap, ◌∙◌, arith}
+use Rattle.std.proofs.Common.{◌≡◌, ℕ, Bool, true, false, not, cond, ◌==◌, ◌||◌, ◌&&◌, List, [], ◌∷◌, Option, Some, None, length, map, refl, ap, ◌∙◌, arith}
 use Rattle.std.specs.List.{list_any}
+use Rattle.std.proofs.lemmas.Bool.{or_left, or_right, and_parts}
 use Rattle.std.proofs.lemmas.Bool.Decides.{nat_tests}
 use Rattle.dq_list.specs.Lengths.{is_empty}
 use Rattle.dq_vr.specs.declared.Tag.{Tag}
 use Rattle.dq_vr.specs.declared.Vr.{Vr}
 use Rattle.dq_value.specs.Digits.{◌>>=◌}
 use Rattle.dq_value.specs.Day.{day}
-use Rattle.dq_value.specs.Trimming.{trimmed_value, without_padding, without_leading, without_trailing, is_padded, ignores_leading_spaces}
+use Rattle.dq_value.specs.Trimming.{trimmed_value, without_padding, without_leading, without_trailing, is_padded}
 use Rattle.dq_value.specs.Parts.{element_values, value_pieces, sole}
 use Rattle.dq_value.specs.Range.{range_ends, ends_of_halves, halves, behind}
 use Rattle.dq_dataset.specs.declared.data_set.Element.{Element}
@@ -25,31 +26,19 @@ use Rattle.dq_match.specs.Values.{is_asterisk, is_universal, is_same, octets_mee
 use Rattle.dq_match.specs.Keys.{items_in, is_tag, is_key}
 use Rattle.dq_match.specs.Matching.{asked_days, period, is_start, is_matched_elsewhere, with_period, each_met, items_meet, all_met, fits}
 use Rattle.dq_match.specs.Universal.{all_universal, are_universal, has_nothing_to_meet, is_open_key, asks_nothing}
-use Rattle.dq_match.proofs.KnownKeys.{both}
-
-or_true : (a b : Bool) → b ≡ true → (a || b) ≡ true
-or_true true b h = refl
-or_true false b h = h
-
-true_or : (a b : Bool) → a ≡ true → (a || b) ≡ true
-true_or true b h = refl
-true_or false b h = cc
 
 -- ---- one key
 
 pub universal_octets : (vr : Vr) (key held : List ℕ) → is_universal vr key ≡ true → octets_meet vr key held ≡ true
 unfolding octets_meet
-universal_octets vr key held h = grind (arith, nat_tests, true_or)
+universal_octets vr key held h = grind (arith, nat_tests, or_left)
 
 -- ---- no period
 
-same_octet : (octet : ℕ) (others : List ℕ) → is_same (octet ∷ others) (any_run ∷ []) ≡ true → octet ∷ others ≡ any_run ∷ []
-same_octet octet [] h = ap (λ x. x ∷ []) (grind (arith, nat_tests))
-same_octet octet (x ∷ xs) h = absurd (grind (arith, nat_tests))
-
 asterisk_value : (value : List ℕ) → is_same value (any_run ∷ []) ≡ true → value ≡ any_run ∷ []
 asterisk_value [] h = absurd cc
-asterisk_value (octet ∷ others) h = same_octet octet others h
+asterisk_value (octet ∷ []) h = ap (λ x. x ∷ []) (grind (arith, nat_tests))
+asterisk_value (octet ∷ (x ∷ xs)) h = absurd (grind (arith, nat_tests))
 
 no_range : {A : Type 0} (read : List ℕ → Option A) → range_bounds read (any_run ∷ []) ≡ None
 unfolding range_bounds range_ends ends_of_halves halves behind
@@ -73,13 +62,7 @@ IsUniversal (Some e) = is_universal e.vr (value_octets e.value) ≡ true
 
 trimmed_nothing : (vr : Vr) → trimmed_value vr [] ≡ []
 unfolding trimmed_value without_padding without_leading without_trailing
-trimmed_nothing vr = by_tests (ignores_leading_spaces vr) (is_padded vr)
-  where
-    by_tests : (a b : Bool) → cond a (without_leading (λ octet. nat_eq octet 0x20) (cond b [] [])) (cond b [] []) ≡ []
-    by_tests true true = refl
-    by_tests true false = refl
-    by_tests false true = refl
-    by_tests false false = refl
+trimmed_nothing vr = grind arith
 
 no_parts : (vr : Vr) → element_values vr [] ≡ []
 unfolding element_values
@@ -97,11 +80,11 @@ found_by false e others h k = k
 found_universal : (tag : Tag) (keys : ElementList) → all_universal keys ≡ true → IsUniversal (element_at tag keys)
 found_universal tag no_elements h = tt
 found_universal tag (element t v o rest) h =
-    let parts = both (is_universal v o) (all_universal rest) h in
+    let parts = and_parts (is_universal v o) (all_universal rest) h in
     found_by (is_tag t tag) (record { tag = t; vr = v; value = Octets o }) (element_at tag rest) parts.0 (found_universal tag rest parts.1)
 found_universal tag (sequence t v items rest) h =
     found_by (is_tag t tag) (record { tag = t; vr = v; value = Items (list_of items) }) (element_at tag rest) (nothing_universal v)
-    (found_universal tag rest (both (are_universal items) (all_universal rest) h).1)
+    (found_universal tag rest (and_parts (are_universal items) (all_universal rest) h).1)
 
 not_asked_by : {A : Type 0} (read : List ℕ → Option A) (vr : Vr) (value : Value) → is_universal vr (value_octets value) ≡ true
     → range_of_sole read (values_of vr value) ≡ None
@@ -128,20 +111,20 @@ mutual
   each_universal : (keys : ElementList) (place : Place) (held : ElementList) → all_universal keys ≡ true → each_met keys place held false ≡ true
   each_universal no_elements place held h = refl
   each_universal (element t v o rest) place held h =
-      let parts = both (is_universal v o) (all_universal rest) h in
-      λ i. or_true (is_matched_elsewhere place false t) (octets_meet v o (element_octets (element_at t held))) (universal_octets v o (element_octets (element_at t held)) parts.0) i
+      let parts = and_parts (is_universal v o) (all_universal rest) h in
+      λ i. or_right (is_matched_elsewhere place false t) (octets_meet v o (element_octets (element_at t held))) (universal_octets v o (element_octets (element_at t held)) parts.0) i
       && each_universal rest place held parts.1 i
   each_universal (sequence t v items rest) place held h =
-      let parts = both (are_universal items) (all_universal rest) h in
-      λ i. or_true (is_matched_elsewhere place false t) (items_meet items (items_in (element_at t held))) (items_universal items (items_in (element_at t held)) parts.0) i
+      let parts = and_parts (are_universal items) (all_universal rest) h in
+      λ i. or_right (is_matched_elsewhere place false t) (items_meet items (items_in (element_at t held))) (items_universal items (items_in (element_at t held)) parts.0) i
       && each_universal rest place held parts.1 i
 
   items_universal : (items : ItemList) (held : List ElementList) → are_universal items ≡ true → items_meet items held ≡ true
   items_universal no_items held h = refl
   items_universal (item keys others) [] h = refl
   items_universal (item keys others) (d ∷ ds) h =
-      let parts = both (all_universal keys) (are_universal others) h in
-      true_or (with_period (period keys d) (each_met keys Inner d)) (list_any (λ d. with_period (period keys d) (each_met keys Inner d)) ds)
+      let parts = and_parts (all_universal keys) (are_universal others) h in
+      or_left (with_period (period keys d) (each_met keys Inner d)) (list_any (λ d. with_period (period keys d) (each_met keys Inner d)) ds)
       (ap (λ (p : Option Bool). with_period p (each_met keys Inner d)) (no_period keys d parts.0) ∙ each_universal keys Inner d parts.0)
 
 pub universal_met : (place : Place) (keys held : ElementList) → all_universal keys ≡ true → all_met place keys held ≡ true
@@ -170,11 +153,11 @@ start_open : (keys : ElementList) → asks_nothing keys ≡ true → IsUniversal
 start_open no_elements h = tt
 start_open (element t v o rest) h =
     let e : Element = record { tag = t; vr = v; value = Octets o } in
-    let parts = both (is_open_key e) (asks_nothing rest) h in
+    let parts = and_parts (is_open_key e) (asks_nothing rest) h in
     found_open (is_tag t scheduled_procedure_step_start_date) e (element_at scheduled_procedure_step_start_date rest) (start_is_key t) parts.0 (start_open rest parts.1)
 start_open (sequence t v items rest) h =
     let e : Element = record { tag = t; vr = v; value = Items (list_of items) } in
-    let parts = both (is_open_key e) (asks_nothing rest) h in
+    let parts = and_parts (is_open_key e) (asks_nothing rest) h in
     found_open (is_tag t scheduled_procedure_step_start_date) e (element_at scheduled_procedure_step_start_date rest) (start_is_key t) parts.0 (start_open rest parts.1)
 
 no_period_asked : (keys held : ElementList) → asks_nothing keys ≡ true → period keys held ≡ None
@@ -192,11 +175,11 @@ no_items_met (item d rest) vr held h = absurd cc
 each_open : (keys held : ElementList) → asks_nothing keys ≡ true → each_met keys Outer held false ≡ true
 each_open no_elements held h = refl
 each_open (element t v o rest) held h =
-    let parts = both (is_open_key (record { tag = t; vr = v; value = Octets o })) (asks_nothing rest) h in
+    let parts = and_parts (is_open_key (record { tag = t; vr = v; value = Octets o })) (asks_nothing rest) h in
     λ i. met_or_open (is_key Outer t) (is_start t) (is_universal v o) (octets_meet v o (element_octets (element_at t held))) (universal_octets v o (element_octets (element_at t held))) parts.0 i
     && each_open rest held parts.1 i
 each_open (sequence t v items rest) held h =
-    let parts = both (is_open_key (record { tag = t; vr = v; value = Items (list_of items) })) (asks_nothing rest) h in
+    let parts = and_parts (is_open_key (record { tag = t; vr = v; value = Items (list_of items) })) (asks_nothing rest) h in
     λ i. met_or_open (is_key Outer t) (is_start t) (has_nothing_to_meet v (Items (list_of items))) (items_meet items (items_in (element_at t held))) (no_items_met items v (items_in (element_at t held))) parts.0 i
     && each_open rest held parts.1 i
 

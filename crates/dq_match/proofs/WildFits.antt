@@ -1,10 +1,10 @@
 -- The wild card as it is computed, and the relation by its cases.
 use Rattle.std.proofs.Common.{◌≡◌, ◌≢◌, ℕ, Bool, true, false, cond, nat_eq, ◌||◌, List, [], ◌∷◌, ◌++◌, ◌↔◌, refl, sym, ap, subst, arith}
+use Rattle.std.proofs.lemmas.Bool.{or_right, and_parts}
 use Rattle.std.proofs.lemmas.Bool.Decides.{nat_tests}
 use Rattle.dq_match.specs.declared.wildcards.Casing.{Casing}
 use Rattle.dq_match.specs.Wildcards.{FitsPattern, ended, run, one, itself, wild, after_run, after_one, stands_for, same, compared_octet, any_run, any_one}
 use Rattle.dq_match.proofs.Scanning.{after_run-here, at_octet}
-use Rattle.dq_match.proofs.KnownKeys.{both}
 
 same_number : (a b : ℕ) → nat_eq a b ≡ true → a ≡ b
 same_number a b h = grind (arith, nat_tests)
@@ -14,10 +14,6 @@ same_test a b h = grind (arith, nat_tests)
 
 other_number : (a b : ℕ) → nat_eq a b ≡ false → a ≢ b
 other_number a b h e = absurd (grind (arith, nat_tests))
-
-or_true : (a b : Bool) → b ≡ true → (a || b) ≡ true
-or_true true b h = refl
-or_true false b h = h
 
 -- what is left after some run passes the test
 pub record Left (test : List ℕ → Bool) (text : List ℕ) : Type 0 where
@@ -39,7 +35,7 @@ left_of test (octet ∷ others) h = left_by (test (octet ∷ others)) test octet
 
 run_from : (test : List ℕ → Bool) (before after : List ℕ) → test after ≡ true → after_run test (before ++ after) ≡ true
 run_from test [] after h = after_run-here test after h
-run_from test (octet ∷ before) after h = or_true (test (octet ∷ (before ++ after))) (after_run test (before ++ after)) (run_from test before after h)
+run_from test (octet ∷ before) after h = or_right (test (octet ∷ (before ++ after))) (after_run test (before ++ after)) (run_from test before after h)
 
 by_octet : (b : Bool) (casing : Casing) (wanted octet : ℕ) (pattern others : List ℕ) → nat_eq wanted any_one ≡ b → wanted ≢ any_run
     → (b || same casing wanted octet) ≡ true → FitsPattern casing pattern others → FitsPattern casing (wanted ∷ pattern) (octet ∷ others)
@@ -57,7 +53,7 @@ by_wanted true casing wanted pattern text e fits h =
     subst (λ w. FitsPattern casing (w ∷ pattern) text) (sym (same_number wanted any_run e))
     (subst (λ (t : List ℕ). FitsPattern casing (any_run ∷ pattern) t) (sym left.whole) (run casing pattern left.before left.after (fits left.after left.passes)))
 by_wanted false casing wanted pattern [] e fits h = absurd cc
-by_wanted false casing wanted pattern (octet ∷ others) e fits h = grind (arith, nat_tests, both, by_octet, other_number)
+by_wanted false casing wanted pattern (octet ∷ others) e fits h = grind (arith, nat_tests, and_parts, by_octet, other_number)
 
 wild_fits : (casing : Casing) (pattern text : List ℕ) → wild casing pattern text ≡ true → FitsPattern casing pattern text
 wild_fits casing [] [] h = ended casing
@@ -70,7 +66,7 @@ fits_wild _ _ _ (ended casing) = refl
 fits_wild _ _ _ (run casing pattern before after fits) = run_from (wild casing pattern) before after (fits_wild casing pattern after fits)
 fits_wild _ _ _ (one casing octet pattern text fits) = fits_wild casing pattern text fits
 fits_wild _ _ _ (itself casing wanted octet pattern text differ same_octet fits) =
-    grind (arith, nat_tests, at_octet, or_true, same_test, fits_wild casing pattern text fits)
+    grind (arith, nat_tests, at_octet, or_right, same_test, fits_wild casing pattern text fits)
 
 pub wild_is_fits : (casing : Casing) (pattern text : List ℕ) → (wild casing pattern text ≡ true) ↔ FitsPattern casing pattern text
 wild_is_fits casing pattern text = (wild_fits casing pattern text, fits_wild casing pattern text)

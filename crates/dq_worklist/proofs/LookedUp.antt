@@ -1,7 +1,7 @@
 -- Where a query asks for one step's id, no entry with another id matches, and the entry that is
 -- looked up gives the answers of all. Else those give them that wait.
-use Rattle.std.proofs.Common.{◌≡◌, ◌≢◌, ℕ, Bool, true, false, not, ◌&&◌, List, [], ◌∷◌, map, filter, Option, Some, None, option_map, Result, Ok, Err, refl, sym, ap, ◌∙◌, if◌then◌else◌}
-use Rattle.std.specs.List.{filter_map, cons_option}
+use Rattle.std.proofs.Common.{◌≡◌, ◌≢◌, ℕ, Bool, true, false, not, List, [], ◌∷◌, map, filter, Option, Some, None, option_map, Result, Ok, Err, refl, sym, ap, ◌∙◌, arith, if◌then◌else◌}
+use Rattle.std.specs.List.{filter_map}
 use Rattle.std.specs.Option.{option_to_list}
 use Rattle.std.specs.Str.{bytes_eq}
 use Rattle.std.proofs.lemmas.Bool.{and_parts}
@@ -13,7 +13,6 @@ use Rattle.dq_dataset.specs.declared.header.Syntax.TheVariants.{Explicit}
 use Rattle.dq_dataset.specs.Tree.{ElementList}
 use Rattle.dq_dataset.specs.Facts.{IsDataSet}
 use Rattle.dq_dataset.specs.Reading.{reading}
-use Rattle.dq_dataset.specs.Canonical.{canonical}
 use Rattle.dq_dataset.specs.Values.{sole_at}
 use Rattle.dq_dataset.proofs.KnownVrs.{read_has_known_inside, facts_give_known_inside}
 use Rattle.dq_match.specs.Matching.{fits}
@@ -28,7 +27,7 @@ use Rattle.dq_tables.specs.Rows.{Record, record_of, row_of, of}
 use Rattle.dq_tables.specs.Finding.{record_at, records_of, waiting_among}
 use Rattle.dq_tables.specs.Records.{data_set_of}
 use Rattle.dq_tables.specs.Keys.{is_id, sole_item_at, id_of, id_in, entry_id}
-use Rattle.dq_tables.specs.Sound.{IsSound, is_own_row, is_record_of, may_be_started, has_key, has_above, is_within_limits}
+use Rattle.dq_tables.specs.Sound.{IsSound, is_own_row, is_record_of, may_be_started, has_key}
 use Rattle.dq_tables.proofs.Listing.{of_kind_from, listed_in_order}
 use Rattle.dq_archive.proofs.Named.{only_named}
 use Rattle.dq_archive.proofs.OwnRecords.{of_each, passed, value_from}
@@ -64,11 +63,7 @@ own_by : (read : Result ElementList ReadFault) (row : Row) → reading Explicit 
     → HasOwnId (record_of row)
 unfolding data_set_of
 own_by (Err fault) row is own = absurd cc
-own_by (Ok d) row is own =
-    let keys = (and_parts (bytes_eq (canonical Explicit d) row.octets)
-    (has_key row.kind row.key d && (has_above row.kind row.above d && is_within_limits row.kind row.octets)) own).1 in
-    let key = (and_parts (has_key row.kind row.key d) (has_above row.kind row.above d && is_within_limits row.kind row.octets) keys).0 in
-    rw is (read_has_known_inside Explicit row.octets d is, key)
+own_by (Ok d) row is own = grind (arith, and_parts, read_has_known_inside)
 
 row_own : (row : Row) → is_own_row row ≡ true → HasOwnId (record_of row)
 unfolding is_own_row
@@ -106,28 +101,11 @@ one_candidate institution records keys id row listed asked found is =
     ∙ ap (λ (o : Option (List ℕ)). map (row_of institution) (entries_with records o)) asked
 
 -- what those give that wait
-waiting_step : (keys : ElementList) (r : Record) (left entries : List Record) (b : Bool) → r.started ≡ b
-    → filter_map (λ (s : Record). answer_to_keys keys (data_set_of s.octets)) left ≡ filter_map (entry_answer keys) entries
-    → filter_map (λ (s : Record). answer_to_keys keys (data_set_of s.octets)) (if not b then r ∷ left else left)
-    ≡ cons_option (if b then None else answer_to_keys keys (data_set_of r.octets)) (filter_map (entry_answer keys) entries)
-waiting_step keys r left entries true is rest = rest
-waiting_step keys r left entries false is rest = ap (cons_option (answer_to_keys keys (data_set_of r.octets))) rest
-
 waiting_give : (keys : ElementList) (entries : List Record)
     → filter_map (λ (r : Record). answer_to_keys keys (data_set_of r.octets)) (filter (λ (r : Record). not r.started) entries)
     ≡ filter_map (entry_answer keys) entries
 waiting_give keys [] = refl
-waiting_give keys (r ∷ entries) =
-    waiting_step keys r (filter (λ (s : Record). not s.started) entries) entries r.started refl (waiting_give keys entries)
-
-none_of : (keys : ElementList) (r : Record) (b : Bool) → answer_to_keys keys (data_set_of r.octets) ≡ None
-    → (if b then None else answer_to_keys keys (data_set_of r.octets)) ≡ None
-none_of keys r true none = refl
-none_of keys r false none = none
-
-started_gives : (keys : ElementList) (r : Record) (b : Bool) → not b ≡ false → (if b then None else answer_to_keys keys (data_set_of r.octets)) ≡ None
-started_gives keys r true is = refl
-started_gives keys r false is = absurd cc
+waiting_give keys (r ∷ entries) = grind (arith, waiting_give keys entries)
 
 module _ (each_alone : EachAlone) (items_met : ItemsMet) (institution : List ℕ) (rows : List Row) (keys : ElementList)
     (sound : IsSound rows) (facts : IsDataSet keys) where
@@ -147,7 +125,7 @@ module _ (each_alone : EachAlone) (items_met : ItemsMet) (institution : List ℕ
 
   -- those that are started give none
   by_waiting : filter_map (entry_answer keys) (waiting_among (of institution rows)) ≡ filter_map (entry_answer keys) (records_of Entry (of institution rows))
-  by_waiting = given_skipped (entry_answer keys) (λ (r : Record). not r.started) (records_of Entry (of institution rows)) (λ r h is. started_gives keys r r.started is)
+  by_waiting = given_skipped (entry_answer keys) (λ (r : Record). not r.started) (records_of Entry (of institution rows)) (λ r h is. grind arith)
 
   by_asked : (o : Option (List ℕ)) → id_asked keys ≡ o
       → filter_map (entry_answer keys) (entries_with (of institution rows) o)
@@ -156,7 +134,7 @@ module _ (each_alone : EachAlone) (items_met : ItemsMet) (institution : List ℕ
   by_asked (Some id) is =
       ap (filter_map (entry_answer keys)) (sym (only_named Entry id (of institution rows) (listed_in_order Entry institution rows sound.rising)))
       ∙ given_skipped (entry_answer keys) (λ (r : Record). bytes_eq r.key id) (records_of Entry (of institution rows))
-      (λ r h other. none_of keys r r.started (other_gives_none id is r h (λ same. cc (sym other ∙ (bytes_eq-Decides r.key id).1 same))))
+      (λ r h other. (let none = other_gives_none id is r h (λ same. cc (sym other ∙ (bytes_eq-Decides r.key id).1 same)) in grind arith))
 
   -- the answers of the entries that are looked at
   pub answered_of_candidates : row_answers keys (map (row_of institution) (entry_candidates (of institution rows) keys)) ≡ answers_of_entries (of institution rows) keys
