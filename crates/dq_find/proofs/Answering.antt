@@ -1,24 +1,30 @@
 -- The answers of one row after the other, and what is not computed where no key asks for it.
-use Rattle.std.proofs.Common.{◌≡◌, ℕ, Bool, true, false, cond, ◌||◌, List, [], ◌∷◌, Option, Some, None, option_map, is_some, Result, refl, sym, ap, ◌∙◌, arith}
-use Rattle.std.specs.List.{list_any}
+use Rattle.std.proofs.Common.{◌≡◌, ℕ, Bool, true, false, cond, ◌||◌, List, [], ◌∷◌, ◌++◌, Option, Some, None, option_map, is_some, refl, sym, ap, ◌∙◌, arith}
+use Rattle.std.specs.List.{list_any, list_all, filter_map}
+use Rattle.std.proofs.lemmas.Bool.{or_parts}
 use Rattle.std.proofs.lemmas.Bool.Decides.{nat_tests}
 use Rattle.dq_vr.specs.declared.Tag.{Tag}
 use Rattle.dq_vr.specs.Tags as tags
 use Rattle.dq_dataset.specs.declared.data_set.Element.{Element}
-use Rattle.dq_dataset.specs.declared.header.Syntax.{Syntax}
 use Rattle.dq_dataset.specs.declared.data_set.Value.TheVariants.{Octets, Items}
 use Rattle.dq_dataset.specs.Tree.{ElementList, no_elements, element, sequence}
 use Rattle.dq_dataset.specs.View.{elements_of, has_tag, list_of}
 use Rattle.dq_dataset.specs.Editing.{merged_data_set}
 use Rattle.dq_dataset.specs.Values.{element_at}
-use Rattle.dq_match.specs.Keys.{is_tag}
-use Rattle.dq_dimse.specs.Received.{Message}
-use Rattle.dq_tables.specs.Rows.{Record}
+use Rattle.dq_match.specs.declared.keys.Place.TheVariants.{Outer}
+use Rattle.dq_match.specs.AsLent.{is_met_at_once}
+use Rattle.dq_match.specs.Fitting.{EachIsMet}
+use Rattle.dq_match.specs.Keys.{is_tag, other_than_keys}
+use Rattle.dq_match.specs.Matching.{fits}
+use Rattle.dq_match.specs.Responses.{shown_data_set}
+use Rattle.dq_match.proofs.Alone.{starts, unfit}
+use Rattle.dq_tables.specs.declared.row.Row.{Row}
+use Rattle.dq_tables.specs.Rows.{Record, record_of}
 use Rattle.dq_find.specs.declared.level.Level.{Level}
 use Rattle.dq_find.specs.declared.level.Level.TheVariants.{Study, Series, Image}
 use Rattle.dq_find.specs.declared.query.Query.{Query}
 use Rattle.dq_find.specs.Computed.{study_values, series_values, computed_keys}
-use Rattle.dq_find.specs.Queries.{answer_elements, answer_if, asks_computed, message_query, found_by, query_outcome}
+use Rattle.dq_find.specs.Queries.{answer_elements, answer_if, record_answer, computed_tags, asks_computed}
 use Rattle.dq_find.proofs.Completing.{element_stays}
 use Rattle.dq_find.proofs.Agreeing.{Agree, fits_alike, shown_alike}
 
@@ -26,10 +32,6 @@ use Rattle.dq_find.proofs.Agreeing.{Agree, fits_alike, shown_alike}
 
 is_tag-sym : (a b : Tag) → is_tag a b ≡ is_tag b a
 is_tag-sym a b = grind (arith, nat_tests)
-
-some_or : (a b : Bool) → (a || b) ≡ false → (a ≡ false) × (b ≡ false)
-some_or true b h = absurd cc
-some_or false b h = (refl, h)
 
 missing_by : (b : Bool) (e : Element) (others : Option Element) → is_some (cond b (Some e) others) ≡ false → (b ≡ false) × (is_some others ≡ false)
 missing_by true e others h = absurd cc
@@ -44,7 +46,7 @@ none_here : (listed : List Tag) (e : Element) (rest : ElementList)
     → (list_any (λ tag. is_tag tag e.tag) listed ≡ false) × (asks_none listed rest ≡ false)
 none_here [] e rest h = (refl, refl)
 none_here (tag ∷ others) e rest h =
-    let parts = some_or (is_some (cond (is_tag e.tag tag) (Some e) (element_at tag rest)))
+    let parts = or_parts (is_some (cond (is_tag e.tag tag) (Some e) (element_at tag rest)))
     (list_any (λ tag. is_some (cond (is_tag e.tag tag) (Some e) (element_at tag rest))) others) h in
     let here = missing_by (is_tag e.tag tag) e (element_at tag rest) parts.0 in
     let later = none_here others e rest parts.1 in
@@ -62,34 +64,14 @@ module _ (listed : List Tag) (sent : ElementList) (within : (tag : Tag) → list
       let parts = none_here listed (record { tag = t; vr = v; value = Items (list_of items) }) rest h in
       (element_stays t held sent (within t parts.0), agree_unasked rest parts.1)
 
-abbrev pub all_computed : List Tag
-all_computed = tags.modalities_in_study ∷ tags.number_of_study_related_series ∷ tags.number_of_study_related_instances
-    ∷ tags.number_of_series_related_instances ∷ []
-
-last_of : (a b c d : Bool) → (a || (b || (c || (d || false)))) ≡ false → d ≡ false
-last_of false false false d h = or_nothing d h
-  where
-    or_nothing : (x : Bool) → (x || false) ≡ false → x ≡ false
-    or_nothing true k = k
-    or_nothing false k = k
-last_of true b c d h = absurd cc
-last_of false true c d h = absurd cc
-last_of false false true d h = absurd cc
-
-first_three : (a b c d : Bool) → (a || (b || (c || (d || false)))) ≡ false → (a || (b || (c || false))) ≡ false
-first_three false false false d h = refl
-first_three true b c d h = absurd cc
-first_three false true c d h = absurd cc
-first_three false false true d h = absurd cc
-
-computed_tags_alone : (records : List Record) (level : Level) (key : List ℕ) (tag : Tag) → list_any (λ one. is_tag one tag) all_computed ≡ false
+computed_tags_alone : (records : List Record) (level : Level) (key : List ℕ) (tag : Tag) → list_any (λ one. is_tag one tag) computed_tags ≡ false
     → list_any (has_tag tag) (elements_of (computed_keys records level key)) ≡ false
 unfolding computed_keys study_values series_values
-computed_tags_alone records Study key tag h = grind (arith, nat_tests, first_three)
-computed_tags_alone records Series key tag h = grind (arith, nat_tests, last_of)
+computed_tags_alone records Study key tag h = grind (arith, nat_tests)
+computed_tags_alone records Series key tag h = grind (arith, nat_tests)
 computed_tags_alone records Image key tag h = refl
 
-pub stays : (records : List Record) (level : Level) (key : List ℕ) (held : ElementList) (tag : Tag) → list_any (λ one. is_tag one tag) all_computed ≡ false
+pub stays : (records : List Record) (level : Level) (key : List ℕ) (held : ElementList) (tag : Tag) → list_any (λ one. is_tag one tag) computed_tags ≡ false
     → element_at tag (merged_data_set held (computed_keys records level key)) ≡ element_at tag held
 stays records level key held tag other = element_stays tag held (computed_keys records level key) (computed_tags_alone records level key tag other)
 
@@ -98,15 +80,26 @@ pub answered_alike : (records : List Record) (called key : List ℕ) (query : Qu
     → answer_if called query held ≡ answer_if called query (merged_data_set held (computed_keys records query.level key))
 answered_alike records called key query held h =
     let sent : ElementList = computed_keys records query.level key in
-    let agree = agree_unasked all_computed sent (λ tag other. computed_tags_alone records query.level key tag other) held query.keys h in
+    let agree = agree_unasked computed_tags sent (λ tag other. computed_tags_alone records query.level key tag other) held query.keys h in
     let fit = fits_alike query.keys (merged_data_set held sent) held agree (stays records query.level key held tags.scheduled_procedure_step_start_date refl)
     (stays records query.level key held tags.scheduled_procedure_step_start_time refl) in
     let show = shown_alike query.keys (merged_data_set held sent) held agree (stays records query.level key held tags.specific_character_set refl) in
     sym (λ i. option_map (answer_elements called query) (cond (fit i) (Some (show i)) None))
 
--- ---- what is found
+-- what a kept element does not meet alone
+abbrev pub met_later : List Tag
+met_later = other_than_keys ++ (computed_tags ++ starts)
 
-pub outcome_of : (records : List Record) (called : List ℕ) (message : Message) (syntax : Syntax) (asked : Result Query ℕ) → asked ≡ message_query message syntax
-    → query_outcome records called message syntax ≡ found_by records called asked
-unfolding query_outcome
-outcome_of records called message syntax asked is = ap (found_by records called) (sym is)
+-- a record that does not meet the keys that are kept does not answer, whatever is computed of it
+pub not_met : (records : List Record) (called key : List ℕ) (query : Query) (held : ElementList)
+    → ((whole : ElementList) → fits query.keys whole ≡ true → EachIsMet Outer query.keys whole)
+    → list_all (is_met_at_once met_later held) (elements_of query.keys) ≡ false
+    → answer_if called query (merged_data_set held (computed_keys records query.level key)) ≡ None
+not_met records called key query held alone unmet =
+    let whole : ElementList = merged_data_set held (computed_keys records query.level key) in
+    ap (λ b. option_map (answer_elements called query) (cond b (Some (shown_data_set query.keys whole)) None))
+    (unfit computed_tags query.keys held whole (stays records query.level key held) (alone whole) unmet)
+
+-- the answers of some rows
+abbrev pub row_answers : List Record → List ℕ → Query → List Row → List ElementList
+row_answers records called query rows = filter_map (λ (row : Row). record_answer records called query (record_of row)) rows

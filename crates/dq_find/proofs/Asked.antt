@@ -35,7 +35,8 @@ use Rattle.dq_find.specs.Choosing.{is_no_asterisk}
 use Rattle.dq_find.specs.Computed.{with_computed}
 use Rattle.dq_find.specs.Answers.{HasKeyAbove}
 use Rattle.dq_find.proofs.Answered.{IsUnder}
-use Rattle.dq_find.proofs.Answering.{all_computed, stays}
+use Rattle.dq_find.specs.Queries.{computed_tags}
+use Rattle.dq_find.proofs.Answering.{stays}
 use Rattle.dq_find.proofs.Chosen.{uid_met}
 use Rattle.dq_find.proofs.Naming.{IsKeyOf, unique_keys_are_uids, sole_of_uid, one_alone}
 
@@ -83,7 +84,7 @@ module _ (records : List Record) (keys : ElementList) (known : AllByRecursion Ha
   abbrev held : ElementList
   held = data_set_of r.octets
 
-  same_uid : (level : Level) (tag : Tag) → IsKeyOf UI tag → list_any (λ one. is_tag one tag) all_computed ≡ false
+  same_uid : (level : Level) (tag : Tag) → IsKeyOf UI tag → list_any (λ one. is_tag one tag) computed_tags ≡ false
       → is_some (uid_at tag keys) ≡ true → is_value (uid_at tag held) r.above ≡ true → fits keys (with_computed records level r) ≡ true
       → uid_at tag held ≡ uid_at tag keys
   same_uid level tag is other there said fit =

@@ -1,7 +1,8 @@
 -- A study that fits the keys of a query is one that is chosen.
-use Rattle.std.proofs.Common.{◌≡◌, ℕ, Bool, true, false, ◌&&◌, not, List, Option, Some, None, refl, ap, ◌∙◌, if◌then◌else◌, arith}
+use Rattle.std.proofs.Common.{◌≡◌, ℕ, Bool, true, false, ◌&&◌, List, Option, Some, None, refl, ap, ◌∙◌, if◌then◌else◌, arith}
 use Rattle.std.specs.List.{AllByRecursion}
 use Rattle.std.specs.Str.{bytes_eq}
+use Rattle.std.proofs.lemmas.Bool.{not-true}
 use Rattle.std.proofs.lemmas.Slice.Eq.{bytes_eq-Decides}
 use Rattle.dq_vr.specs.declared.Vr.TheVariants.{DA, LO, UI}
 use Rattle.dq_vr.specs.Dictionary.{dictionary, vr_in, known_vr}
@@ -31,13 +32,9 @@ use Rattle.dq_find.proofs.Naming.{IsKeyOf, unique_keys_are_uids, one_alone}
 
 -- ---- the UID
 
-no_asterisk : (b : Bool) → not b ≡ true → b ≡ false
-no_asterisk true h = absurd cc
-no_asterisk false h = refl
-
 pub uid_met : (uid key : List ℕ) → is_no_asterisk uid ≡ true → is_met_by UI uid key ≡ true → bytes_eq key uid ≡ true
 unfolding is_padded matching_of
-uid_met uid key plain met = grind (arith, no_asterisk, bytes_eq-Decides)
+uid_met uid key plain met = grind (arith, not-true, bytes_eq-Decides)
 
 uid_by : (uid key : List ℕ) (b : Bool) → is_no_asterisk uid ≡ b → is_met_by UI uid key ≡ true → is_none_or (bytes_eq key) (if b then Some uid else None) ≡ true
 uid_by uid key true plain met = uid_met uid key plain met

@@ -1,6 +1,7 @@
 -- What is computed of a record changes none of its other elements.
-use Rattle.std.proofs.Common.{◌≡◌, Bool, true, false, cond, ◌||◌, List, [], ◌∷◌, ◌++◌, Option, Some, None, find, filter, refl, ap, ◌∙◌, arith}
+use Rattle.std.proofs.Common.{◌≡◌, Bool, true, false, cond, List, [], ◌∷◌, ◌++◌, Option, Some, None, find, filter, refl, ap, ◌∙◌, arith}
 use Rattle.std.specs.List.{list_any}
+use Rattle.std.proofs.lemmas.Bool.{or_parts}
 use Rattle.std.proofs.lemmas.Bool.Decides.{nat_tests}
 use Rattle.dq_vr.specs.declared.Tag.{Tag}
 use Rattle.dq_vr.specs.Tag.{is_below}
@@ -17,36 +18,18 @@ abbrev or_else : Option Element → Option Element → Option Element
 or_else None other = other
 or_else (Some e) other = Some e
 
-find_by : (b : Bool) (e : Element) (found other : Option Element) → cond b (Some e) (or_else found other) ≡ or_else (cond b (Some e) found) other
-find_by true e found other = refl
-find_by false e found other = refl
-
 find_append : (test : Element → Bool) (xs ys : List Element) → find test (xs ++ ys) ≡ or_else (find test xs) (find test ys)
 find_append test [] ys = refl
-find_append test (x ∷ xs) ys = ap (λ (o : Option Element). cond (test x) (Some x) o) (find_append test xs ys) ∙ find_by (test x) x (find test xs) (find test ys)
+find_append test (x ∷ xs) ys = grind (arith, find_append test xs ys)
 
 -- where a test passes those that are found, it may be made first
-kept_by : (a b : Bool) (test keep : Element → Bool) (x : Element) (xs : List Element) → test x ≡ a → keep x ≡ b → (a ≡ true → b ≡ true)
-    → find test (filter keep xs) ≡ find test xs → find test (cond b (x ∷ filter keep xs) (filter keep xs)) ≡ cond a (Some x) (find test xs)
-kept_by true true test keep x xs e f h k = ap (λ (t : Bool). cond t (Some x) (find test (filter keep xs))) e
-kept_by true false test keep x xs e f h k = absurd (cc (h refl))
-kept_by false true test keep x xs e f h k = ap (λ (t : Bool). cond t (Some x) (find test (filter keep xs))) e ∙ k
-kept_by false false test keep x xs e f h k = k
-
 find_kept : (test keep : Element → Bool) (xs : List Element) → ((x : Element) → test x ≡ true → keep x ≡ true) → find test (filter keep xs) ≡ find test xs
 find_kept test keep [] h = refl
-find_kept test keep (x ∷ xs) h = kept_by (test x) (keep x) test keep x xs refl refl (h x) (find_kept test keep xs h)
-
-dropped_by : (a b : Bool) (test keep : Element → Bool) (x : Element) (xs : List Element) → test x ≡ a → keep x ≡ b → (a ≡ true → b ≡ false)
-    → find test (filter keep xs) ≡ None → find test (cond b (x ∷ filter keep xs) (filter keep xs)) ≡ None
-dropped_by true true test keep x xs e f h k = absurd (cc (h refl))
-dropped_by true false test keep x xs e f h k = k
-dropped_by false true test keep x xs e f h k = ap (λ (t : Bool). cond t (Some x) (find test (filter keep xs))) e ∙ k
-dropped_by false false test keep x xs e f h k = k
+find_kept test keep (x ∷ xs) h = grind (arith, h x, find_kept test keep xs h)
 
 find_dropped : (test keep : Element → Bool) (xs : List Element) → ((x : Element) → test x ≡ true → keep x ≡ false) → find test (filter keep xs) ≡ None
 find_dropped test keep [] h = refl
-find_dropped test keep (x ∷ xs) h = dropped_by (test x) (keep x) test keep x xs refl refl (h x) (find_dropped test keep xs h)
+find_dropped test keep (x ∷ xs) h = grind (arith, h x, find_dropped test keep xs h)
 
 -- two tags that differ are in order
 above_unless : (a b : Tag) → is_tag b a ≡ false → is_below a b ≡ false → is_below b a ≡ true
@@ -78,14 +61,10 @@ merged_step false tag e kept sent below differ rest =
     find_kept (has_tag tag) (λ x. is_below e.tag x.tag) kept (λ x same. ap (λ (t : Tag). is_below e.tag t) (same_tag x.tag tag same) ∙ above) in
     ap (λ (o : Option Element). or_else o (find (has_tag tag) (merged_elements (elements_above e.tag kept) sent))) front ∙ rest ∙ back
 
-neither : (a b : Bool) → (a || b) ≡ false → (a ≡ false) × (b ≡ false)
-neither true b h = absurd cc
-neither false b h = (refl, h)
-
 find_merged : (tag : Tag) (kept sent : List Element) → has_none tag sent ≡ false → find (has_tag tag) (merged_elements kept sent) ≡ find (has_tag tag) kept
 find_merged tag kept [] h = refl
 find_merged tag kept (e ∷ sent) h =
-    let parts = neither (is_tag e.tag tag) (has_none tag sent) h in
+    let parts = or_parts (is_tag e.tag tag) (has_none tag sent) h in
     find_append (has_tag tag) (elements_below e.tag kept) (e ∷ merged_elements (elements_above e.tag kept) sent)
     ∙ ap (λ (b : Bool). or_else (find (has_tag tag) (elements_below e.tag kept))
     (cond b (Some e) (find (has_tag tag) (merged_elements (elements_above e.tag kept) sent)))) parts.0

@@ -6,7 +6,6 @@ use Rattle.dq_dataset.specs.Tree.{ElementList}
 use Rattle.dq_match.specs.Matching.{fits}
 use Rattle.dq_match.specs.Responses.{shown_data_set}
 use Rattle.dq_match.proofs.Answering.{given_of_each}
-use Rattle.dq_match.proofs.Parts.{part_next, part_past, part_full, part_end}
 use Rattle.dq_tables.specs.declared.row.Kind.TheVariants.{Study as StudyKind}
 use Rattle.dq_tables.specs.declared.row.Row.{Row}
 use Rattle.dq_tables.specs.Rows.{Record, record_of, row_of}
@@ -15,9 +14,8 @@ use Rattle.dq_find.specs.declared.level.Level.{Level}
 use Rattle.dq_find.specs.declared.level.Level.TheVariants.{Study}
 use Rattle.dq_find.specs.declared.query.Query.{Query}
 use Rattle.dq_find.specs.Computed.{with_computed}
+use Rattle.dq_find.proofs.Answering.{row_answers}
 use Rattle.dq_find.specs.Queries.{answer_elements, records_asked, record_answer, answers_of_records}
-
-pub ruleset in_parts = (part_next, part_past, part_full, part_end)
 
 -- ---- studies that are asked nothing
 
@@ -37,7 +35,7 @@ module _ (records : List Record) (called : List ℕ) (query : Query) (fit : (hel
 
   -- each of them answers, so a part of the answers is what a part of them answers
   pub part_told : (institution : List ℕ) (from most : ℕ) → query.level ≡ Study
-      → filter_map (λ (row : Row). record_answer records called query (record_of row)) (map (row_of institution) (take most (drop from (records_of StudyKind records))))
+      → row_answers records called query (map (row_of institution) (take most (drop from (records_of StudyKind records))))
       ≡ take most (drop from (answers_of_records records called query))
   unfolding answers_of_records records_asked
   part_told institution from most level =

@@ -11,7 +11,6 @@ mod InOrder
 mod InParts
 mod InTurn
 mod FromPlace
-mod MetFirst
 mod Matching
 mod TextFacts
 mod Asked

@@ -1,17 +1,13 @@
 -- A record that is looked up by its unique key is the only one that is asked for with that key, and
 -- the answers of the records that are looked at are those of all.
-use Rattle.std.proofs.Common.{◌≡◌, ℕ, Bool, true, false, ◌&&◌, ◌||◌, ◌⊎◌, List, [], ◌∷◌, map, find, filter, Option, Some, None, option_map, inl, inr, refl, sym, ap, subst, ◌∙◌, cond, if◌then◌else◌, arith}
+use Rattle.std.proofs.Common.{◌≡◌, ℕ, Bool, true, false, ◌||◌, ◌⊎◌, List, [], ◌∷◌, map, filter, Option, Some, None, option_map, inl, inr, refl, sym, ap, subst, ◌∙◌, if◌then◌else◌, arith}
 use Rattle.std.specs.Global.{Vec}
-use Rattle.std.specs.BTreeSet.{insert_key}
 use Rattle.std.specs.Option.{option_to_list}
-use Rattle.std.specs.Ordering.{match_ordering}
 use Rattle.std.specs.List.{AllByRecursion, list_any, filter_map, cons_option}
 use Rattle.std.specs.List.Sorted.{IsStrictlySortedBy}
-use Rattle.std.specs.declared.cmp.Ordering.{Ordering}
 use Rattle.std.specs.Str.{bytes_eq}
-use Rattle.std.specs.declared.cmp.Ordering.TheVariants.{Less, Equal, Greater}
-use Rattle.std.proofs.lemmas.Bool.{and_parts}
-use Rattle.std.proofs.lemmas.Cmp.{nat_list_cmp_total, tied_itself}
+use Rattle.std.specs.declared.cmp.Ordering.TheVariants.{Less}
+use Rattle.std.proofs.lemmas.Bool.{or_right}
 use Rattle.std.proofs.lemmas.Slice.Eq.{bytes_eq-Decides}
 use Rattle.dq_list.specs.Octets.{octets_of_vectors}
 use Rattle.dq_list.specs.Among.{IsAmong}
@@ -25,94 +21,57 @@ use Rattle.dq_dataset.specs.Values.{element_at}
 use Rattle.dq_dataset.proofs.KnownVrs.{HasKnownVr, facts_give_known_vrs}
 use Rattle.dq_match.specs.Matching.{fits}
 use Rattle.dq_match.specs.Responses.{shown_data_set}
+use Rattle.dq_match.specs.Several.{is_one_of_values}
 use Rattle.dq_match.proofs.Answering.{given_of_each, given_skipped}
 use Rattle.dq_tables.specs.declared.row.Kind.{Kind}
 use Rattle.dq_tables.specs.declared.row.Kind.TheVariants as kind
 use Rattle.dq_tables.specs.declared.row.Row.{Row}
 use Rattle.dq_tables.specs.Rows.{Record, IsRising, octet_order, record_of, row_of, of}
-use Rattle.dq_tables.specs.Finding.{same_kind, record_at, records_of}
+use Rattle.dq_tables.specs.Finding.{record_at, records_of, records_above}
 use Rattle.dq_tables.specs.Records.{AreInOrder, data_set_of}
 use Rattle.dq_tables.specs.Keys.{uid_at}
 use Rattle.dq_tables.specs.Sound.{IsSound, has_key}
-use Rattle.dq_tables.proofs.Listing.{its_kind, one_kind, of_kind_to, listed_in_order, in_order_filter}
-use Rattle.dq_tables.proofs.Rising.{each_among, one_list}
+use Rattle.dq_tables.proofs.Listing.{listed_in_order, in_order_filter}
+use Rattle.dq_tables.proofs.Rising.{one_list}
+use Rattle.dq_archive.proofs.Named.{only_named}
 use Rattle.dq_archive.proofs.OwnRecords.{value_from}
 use Rattle.dq_find.specs.declared.level.Level.{Level}
 use Rattle.dq_find.specs.declared.level.Level.TheVariants.{Study, Series, Image}
 use Rattle.dq_find.specs.declared.query.Query.{Query}
 use Rattle.dq_find.specs.Levels.{kind_of, unique_key}
 use Rattle.dq_find.specs.Choosing.{is_asked}
-use Rattle.dq_find.specs.Computed.{with_computed, computed_keys, value_inserted, put_in_order, all_in_order}
-use Rattle.dq_find.specs.Queries.{key_above, answer_elements, record_answer, answers_of_records, asked_records}
+use Rattle.dq_find.specs.Computed.{with_computed, computed_keys}
+use Rattle.dq_find.specs.Queries.{answer_elements, record_answer, answers_of_records, records_asked, asked_records}
 use Rattle.dq_find.specs.Candidates.{own_values, names_records, looks_up, has_one_of, query_candidates, is_under, under, looked_up, named_record, named_rows}
-use Rattle.dq_find.proofs.Answered.{IsUnder, asked_from, asked_to, asked_in_order}
-use Rattle.dq_find.proofs.Answering.{stays}
+use Rattle.dq_find.proofs.Answered.{asked_from, asked_in_order}
+use Rattle.dq_find.proofs.Answering.{row_answers, stays}
 use Rattle.dq_find.proofs.Asked.{has_own, EachAlone}
+use Rattle.dq_find.proofs.Asking.{kept_all}
 use Rattle.dq_find.proofs.Naming.{unique_keys_are_uids, sole_of_uid, named_among}
 use Rattle.dq_tables.proofs.Taken.{DaysAreInOrder}
 use Rattle.dq_find.proofs.Chosen.{Stay, fit_is_chosen}
-use Rattle.dq_find.proofs.Modalities.{IsInOrder, IsBefore, all_stays, all_from, all_to}
+use Rattle.dq_find.proofs.Modalities.{IsInOrder, IsBefore}
 
 -- ---- the record that has a key
 
--- of records in order, two with one key are one
-one_key : (r s : Record) (records : List Record) → AreInOrder records → IsAmong r records → IsAmong s records → r.key ≡ s.key → r ≡ s
-one_key r s [] ordered a b same = absurd a
-one_key r s (x ∷ records) ordered (inl e) (inl f) same = sym e ∙ f
-one_key r s (x ∷ records) ordered (inl e) (inr b) same =
-    let less = each_among (λ (t : Record). octet_order x.key t.key ≡ Less) s records ordered.0 b in
-    let itself = (λ i. octet_order (ap (λ (t : Record). t.key) e i) s.key) ∙ ap (λ (k : List ℕ). octet_order k s.key) same
-    ∙ tied_itself nat_list_cmp_total s.key in
-    absurd (cc (sym less ∙ itself))
-one_key r s (x ∷ records) ordered (inr a) (inl f) same =
-    let less = each_among (λ (t : Record). octet_order x.key t.key ≡ Less) r records ordered.0 a in
-    let itself = (λ i. octet_order (ap (λ (t : Record). t.key) f i) r.key) ∙ ap (λ (k : List ℕ). octet_order k r.key) (sym same)
-    ∙ tied_itself nat_list_cmp_total r.key in
-    absurd (cc (sym less ∙ itself))
-one_key r s (x ∷ records) ordered (inr a) (inr b) same = one_key r s records ordered.1 a b same
+-- one test and then another
+swapped : (p q : Record → Bool) (rs : List Record) → filter p (filter q rs) ≡ filter q (filter p rs)
+swapped p q [] = refl
+swapped p q (r ∷ rs) = grind (arith, swapped p q rs)
 
--- what is found is one that passes, and one that passes is found
-found_step : (p : Record → Bool) (x : Record) (xs : List Record) (b : Bool) → p x ≡ b → (o : Option Record) → find p xs ≡ o → (r : Record)
-    → cond b (Some x) (find p xs) ≡ Some r → ((find p xs ≡ Some r) → IsAmong r xs × (p r ≡ true)) → IsAmong r (x ∷ xs) × (p r ≡ true)
-found_step p x xs true is o e r h rest = (let same : x ≡ r = cc in (inl same, ap p (sym same) ∙ is))
-found_step p x xs false is o e r h rest = let found = rest h in (inr found.0, found.1)
+all_under : (level : Level) (keys : ElementList) (records : List Record)
+    → records_asked records level keys ≡ filter (is_under level keys) (records_of (kind_of level) records)
+unfolding records_asked records_above
+all_under Study keys records = sym (kept_all (records_of kind.Study records))
+all_under Series keys records = refl
+all_under Image keys records = refl
 
-found_from : (p : Record → Bool) (xs : List Record) (r : Record) → find p xs ≡ Some r → IsAmong r xs × (p r ≡ true)
-found_from p [] r h = absurd cc
-found_from p (x ∷ xs) r h = found_step p x xs (p x) refl (find p xs) refl r h (found_from p xs r)
-
-none_step : (p : Record → Bool) (x r : Record) (xs : List Record) (b : Bool) → p x ≡ b → cond b (Some x) (find p xs) ≡ None → IsAmong r (x ∷ xs)
-    → (find p xs ≡ None → IsAmong r xs → p r ≡ false) → p r ≡ false
-none_step p x r xs true is h a rest = absurd cc
-none_step p x r xs false is h (inl e) rest = ap p (sym e) ∙ is
-none_step p x r xs false is h (inr a) rest = rest h a
-
-none_passes : (p : Record → Bool) (xs : List Record) (r : Record) → find p xs ≡ None → IsAmong r xs → p r ≡ false
-none_passes p [] r h a = absurd a
-none_passes p (x ∷ xs) r h a = none_step p x r xs (p x) refl h a (λ e b. none_passes p xs r e b)
-
--- ---- under the keys above
-
-under_is : (level : Level) (keys : ElementList) (r : Record) → is_under level keys r ≡ true → IsUnder level keys r
-under_is Study keys r h = tt
-under_is Series keys r h = (bytes_eq-Decides r.above (key_above tags.study_instance_uid keys)).0 h
-under_is Image keys r h = (bytes_eq-Decides r.above (key_above tags.series_instance_uid keys)).0 h
-
-is_under_to : (level : Level) (keys : ElementList) (r : Record) → IsUnder level keys r → is_under level keys r ≡ true
-is_under_to Study keys r h = refl
-is_under_to Series keys r h = (bytes_eq-Decides r.above (key_above tags.study_instance_uid keys)).1 h
-is_under_to Image keys r h = (bytes_eq-Decides r.above (key_above tags.series_instance_uid keys)).1 h
-
-and_true : (a b : Bool) → a ≡ true → b ≡ true → (a && b) ≡ true
-and_true true b x y = y
-and_true false b x y = cc
+one_under : (level : Level) (keys : ElementList) (o : Option Record) → filter (is_under level keys) (option_to_list o) ≡ option_to_list (under level keys o)
+one_under level keys None = refl
+one_under level keys (Some r) = grind arith
 
 abbrev keyed : List ℕ → Record → Bool
 keyed uid r = bytes_eq r.key uid
-
-both_ways : (r : Record) (b : Bool) → (if b then r ∷ [] else []) ≡ option_to_list (if b then Some r else None)
-both_ways r true = refl
-both_ways r false = refl
 
 module _ (institution : List ℕ) (rows : List Row) (query : Query) (rising : IsRising rows) where
   abbrev own : List Record
@@ -122,82 +81,11 @@ module _ (institution : List ℕ) (rows : List Row) (query : Query) (rising : Is
   asked = asked_records own query
 
   module _ (uid : List ℕ) where
-    abbrev has_uid : Record → Bool
-    has_uid r = same_kind r.kind (kind_of query.level) && bytes_eq r.key uid
-
-    asked_has : (r : Record) → IsAmong r (filter (keyed uid) asked)
-        → IsAmong r own × (r.kind ≡ kind_of query.level) × IsUnder query.level query.keys r × (r.key ≡ uid)
-    asked_has r h =
-        let kept = filtered_from (keyed uid) r asked h in
-        let from = asked_from query.level query.keys r own kept.0 in
-        (from.0, from.1, from.2, (bytes_eq-Decides r.key uid).0 kept.1)
-
-    asked_gets : (r : Record) → IsAmong r own → r.kind ≡ kind_of query.level → IsUnder query.level query.keys r → r.key ≡ uid
-        → IsAmong r (filter (keyed uid) asked)
-    asked_gets r a k under key =
-        among_filter (keyed uid) r asked (asked_to query.level query.keys r own a k under) ((bytes_eq-Decides r.key uid).1 key)
-
-    passes : (r : Record) → r.kind ≡ kind_of query.level → r.key ≡ uid → has_uid r ≡ true
-    passes r k key = and_true (same_kind r.kind (kind_of query.level)) (bytes_eq r.key uid) (its_kind r.kind (kind_of query.level) k) ((bytes_eq-Decides r.key uid).1 key)
-
-    found_has : (r : Record) → record_at (kind_of query.level) uid own ≡ Some r → IsAmong r own × (r.kind ≡ kind_of query.level) × (r.key ≡ uid)
-    unfolding record_at
-    found_has r h =
-        let found = found_from has_uid own r h in
-        let parts = and_parts (same_kind r.kind (kind_of query.level)) (bytes_eq r.key uid) found.1 in
-        (found.0, one_kind r.kind (kind_of query.level) parts.0, (bytes_eq-Decides r.key uid).0 parts.1)
-
-    -- an asked record with the key is the one that is found
-    same_found : (r s : Record) → IsAmong r own × (r.kind ≡ kind_of query.level) × (r.key ≡ uid) → IsAmong s (filter (keyed uid) asked) → r ≡ s
-    same_found r s found h =
-        let asked_one = asked_has s h in
-        one_key r s (records_of (kind_of query.level) own) (listed_in_order (kind_of query.level) institution rows rising)
-        (of_kind_to (kind_of query.level) r own found.0 found.1) (of_kind_to (kind_of query.level) s own asked_one.0 asked_one.1)
-        (found.2 ∙ sym asked_one.3)
-
-    listed_in : AreInOrder (filter (keyed uid) asked)
-    listed_in = in_order_filter (keyed uid) asked (asked_in_order institution rows query rising)
-
-    none_asked : record_at (kind_of query.level) uid own ≡ None → (r : Record) → IsAmong r (filter (keyed uid) asked) → ⊥
-    unfolding record_at
-    none_asked none r h =
-        let one = asked_has r h in
-        absurd (cc (sym (none_passes has_uid own r none one.0) ∙ passes r one.1 one.3))
-
-    one_asked : (r : Record) → record_at (kind_of query.level) uid own ≡ Some r → (b : Bool) → is_under query.level query.keys r ≡ b
-        → filter (keyed uid) asked ≡ (if b then r ∷ [] else [])
-    one_asked r is true under =
-        let found = found_has r is in
-        one_list (filter (keyed uid) asked) (r ∷ []) listed_in (tt, tt)
-        (λ s. (λ h. inl (same_found r s found h), λ h. here s h))
-      where
-        here : (s : Record) → IsAmong s (r ∷ []) → IsAmong s (filter (keyed uid) asked)
-        here s (inl e) =
-            let found = found_has r is in
-            subst (λ (t : Record). IsAmong t (filter (keyed uid) asked)) e
-            (asked_gets r found.0 found.1 (under_is query.level query.keys r under) found.2)
-        here s (inr h) = absurd h
-    one_asked r is false under =
-        let found = found_has r is in
-        one_list (filter (keyed uid) asked) [] listed_in tt
-        (λ s. (λ h. not_under s h, λ h. absurd h))
-      where
-        not_under : (s : Record) → IsAmong s (filter (keyed uid) asked) → ⊥
-        not_under s h =
-            let found = found_has r is in
-            let same = same_found r s found h in
-            let one = asked_has s h in
-            absurd (cc (sym under ∙ ap (is_under query.level query.keys) same ∙ is_under_to query.level query.keys s one.2))
-
-    asked_by_found : (o : Option Record) → record_at (kind_of query.level) uid own ≡ o
-        → filter (keyed uid) asked ≡ option_to_list (under query.level query.keys o)
-    asked_by_found None is =
-        one_list (filter (keyed uid) asked) [] listed_in tt (λ r. (λ h. absurd (none_asked is r h), λ h. absurd h))
-    asked_by_found (Some r) is =
-        one_asked r is (is_under query.level query.keys r) refl ∙ both_ways r (is_under query.level query.keys r)
-
     named_alone : filter (keyed uid) asked ≡ option_to_list (named_record own query uid)
-    named_alone = asked_by_found (record_at (kind_of query.level) uid own) refl
+    named_alone =
+        ap (filter (keyed uid)) (all_under query.level query.keys own) ∙ swapped (keyed uid) (is_under query.level query.keys) (records_of (kind_of query.level) own)
+        ∙ ap (filter (is_under query.level query.keys)) (only_named (kind_of query.level) uid own (listed_in_order (kind_of query.level) institution rows rising))
+        ∙ one_under query.level query.keys (record_at (kind_of query.level) uid own)
 
     named_gives : (r : Record) → named_record own query uid ≡ Some r → IsAmong r asked × (r.key ≡ uid)
     named_gives r is =
@@ -284,32 +172,20 @@ module _ (institution : List ℕ) (rows : List Row) (query : Query) (rising : Is
       by_first true is h rest = inl (sym ((bytes_eq-Decides key uid).0 is))
       by_first false is h rest = inr (rest h)
 
-  or_right : (a b : Bool) → b ≡ true → (a || b) ≡ true
-  or_right true b h = refl
-  or_right false b h = h
-
   one_of_to : (key : List ℕ) (uids : List (List ℕ)) → IsAmong key uids → list_any (λ uid. bytes_eq key uid) uids ≡ true
   one_of_to key [] h = absurd h
   one_of_to key (uid ∷ uids) (inl e) = (λ i. (bytes_eq-Decides key uid).1 (sym e) i || list_any (λ uid. bytes_eq key uid) uids)
   one_of_to key (uid ∷ uids) (inr h) = or_right (bytes_eq key uid) _ (one_of_to key uids h)
 
   -- the keys in their order name the records that have one of them
-  named_have_one : (values : List (List ℕ)) → all_named (all_in_order values []) ≡ filter (has_one_of values) asked
-  unfolding IsStrictlySortedBy
-  named_have_one values =
-      one_list (all_named (all_in_order values [])) (filter (has_one_of values) asked)
-      (named_in_order (all_in_order values []) (all_stays values [] tt))
-      (in_order_filter (has_one_of values) asked (asked_in_order institution rows query rising))
+  named_have_one : (uids : List (List ℕ)) → IsInOrder uids → all_named uids ≡ filter (has_one_of uids) asked
+  named_have_one uids ordered =
+      one_list (all_named uids) (filter (has_one_of uids) asked) (named_in_order uids ordered)
+      (in_order_filter (has_one_of uids) asked (asked_in_order institution rows query rising))
       (λ r. (
-        λ h. (let found = from_named r (all_in_order values []) h in
-            among_filter (has_one_of values) r asked found.0 (one_of_to r.key values (only_left r.key values (all_from r.key values [] found.1)))),
-        λ h. (let kept = filtered_from (has_one_of values) r asked h in
-            to_named r (all_in_order values []) kept.0 (all_to r.key values [] (inl (one_of_from r.key values kept.1)))),
+        λ h. (let found = from_named r uids h in among_filter (has_one_of uids) r asked found.0 (one_of_to r.key uids found.1)),
+        λ h. (let kept = filtered_from (has_one_of uids) r asked h in to_named r uids kept.0 (one_of_from r.key uids kept.1)),
       ))
-    where
-      only_left : (key : List ℕ) (values : List (List ℕ)) → IsAmong key values ⊎ IsAmong key [] → IsAmong key values
-      only_left key values (inl h) = h
-      only_left key values (inr h) = absurd h
 
 -- the same of rows
 rows_step : (institution : List ℕ) (o : Option Record) (later : List Record)
@@ -329,20 +205,32 @@ looks_named Study (uid ∷ (next ∷ others)) h = h
 looks_named Series values h = h
 looks_named Image values h = h
 
-pub named_candidates : (institution : List ℕ) (rows : List Row) (query : Query) (uids : List (List ℕ)) → IsRising rows
-    → uids ≡ all_in_order (own_values query) [] → looks_up query.level (own_values query) ≡ true
-    → named_rows institution (of institution rows) query uids ≡ map (row_of institution) (query_candidates (of institution rows) query)
-named_candidates institution rows query uids rising is looked = grind (arith, rows_are, named_have_one)
+each_octets : (uid : List ℕ) (uids : List (Vec ℕ)) → AllByRecursion (λ (v : Vec ℕ). IsBefore uid v.items) uids → AllByRecursion (IsBefore uid) (octets_of_vectors uids)
+each_octets uid [] before = tt
+each_octets uid (next ∷ uids) before = (before.0, each_octets uid uids before.1)
+
+in_octets : (uids : List (Vec ℕ)) → IsStrictlySortedBy (λ (a b : Vec ℕ). octet_order a.items b.items) uids → IsInOrder (octets_of_vectors uids)
+unfolding IsStrictlySortedBy
+in_octets [] ordered = tt
+in_octets (uid ∷ uids) ordered = (each_octets uid.items uids ordered.0, in_octets uids ordered.1)
+
+pub named_candidates : (institution : List ℕ) (rows : List Row) (query : Query) (uids : List (Vec ℕ)) → IsRising rows
+    → IsStrictlySortedBy (λ (a b : Vec ℕ). octet_order a.items b.items) uids
+    → ((value : List ℕ) → is_one_of_values value (octets_of_vectors uids) ≡ is_one_of_values value (own_values query))
+    → looks_up query.level (own_values query) ≡ true
+    → named_rows institution (of institution rows) query (octets_of_vectors uids) ≡ map (row_of institution) (query_candidates (of institution rows) query)
+named_candidates institution rows query uids rising ordered same looked =
+    let records = asked_records (of institution rows) query in
+    rows_are institution (of institution rows) query (octets_of_vectors uids)
+    ∙ ap (map (row_of institution)) (named_have_one institution rows query rising (octets_of_vectors uids) (in_octets uids ordered)
+    ∙ (λ i. filter (λ (r : Record). same r.key i) records)
+    ∙ ap (λ (b : Bool). filter (λ (r : Record). if b then has_one_of (own_values query) r else is_asked query.level query.keys r) records) (sym looked))
 
 -- a row that was looked up
-under_by : (institution : List ℕ) (r : Record) (b : Bool) → (if b then Some (row_of institution r) else None) ≡ option_map (row_of institution) (if b then Some r else None)
-under_by institution r true = refl
-under_by institution r false = refl
-
 row_under : (institution : List ℕ) (level : Level) (keys : ElementList) (o : Option Record)
     → looked_up level keys (option_map (row_of institution) o) ≡ option_map (row_of institution) (under level keys o)
 row_under institution level keys None = refl
-row_under institution level keys (Some r) = under_by institution r (is_under level keys r)
+row_under institution level keys (Some r) = grind arith
 
 pub looked_up_is : (institution : List ℕ) (records : List Record) (query : Query) (uid : List ℕ) (kind : Kind) (found given : Option Row)
     → kind ≡ kind_of query.level → found ≡ option_map (row_of institution) (record_at kind uid records)
@@ -350,26 +238,6 @@ pub looked_up_is : (institution : List ℕ) (records : List Record) (query : Que
 looked_up_is institution records query uid kind found given is found_is given_is =
     given_is ∙ ap (looked_up query.level query.keys) (found_is ∙ ap (λ (k : Kind). option_map (row_of institution) (record_at k uid records)) is)
     ∙ row_under institution query.level query.keys (record_at (kind_of query.level) uid records)
-
--- a value that is put in its place
-placed_octets : (o : Ordering) (value first : Vec ℕ) (others put : List (Vec ℕ))
-    → octets_of_vectors (match_ordering o (value ∷ (first ∷ others)) (first ∷ others) (first ∷ put))
-    ≡ value_inserted o value.items first.items (octets_of_vectors others) (octets_of_vectors put)
-placed_octets Less value first others put = refl
-placed_octets Equal value first others put = refl
-placed_octets Greater value first others put = refl
-
-put_octets : (value : Vec ℕ) (values : List (Vec ℕ))
-    → octets_of_vectors (insert_key (λ (a b : Vec ℕ). octet_order a.items b.items) values value) ≡ put_in_order value.items (octets_of_vectors values)
-unfolding put_in_order
-put_octets value [] = refl
-put_octets value (first ∷ others) = grind (arith, placed_octets, put_octets value others)
-
-pub one_more : (value : Vec ℕ) (before after : List (Vec ℕ)) (octets : List ℕ) (others left whole : List (List ℕ))
-    → after ≡ insert_key (λ (a b : Vec ℕ). octet_order a.items b.items) before value → value.items ≡ octets → left ≡ octets ∷ others
-    → all_in_order left (octets_of_vectors before) ≡ whole → all_in_order others (octets_of_vectors after) ≡ whole
-unfolding all_in_order
-one_more value before after octets others left whole put is first so_far = grind (arith, put_octets)
 
 -- ---- no other matches
 
@@ -435,15 +303,11 @@ module _ (institution : List ℕ) (rows : List Row) (called : List ℕ) (query :
   skipped = grind (arith, given_skipped, not_looked_at)
 
 -- what is answered of the rows that are looked at
-pub answered_of_candidates : (institution : List ℕ) (rows : List Row) (called : List ℕ) (query : Query) (found seen : List Row) (answered : List ElementList)
-    → IsSound rows → IsDataSet query.keys → EachAlone query.keys → DaysAreInOrder
-    → found ≡ map (row_of institution) (query_candidates (of institution rows) query) → seen ≡ found
-    → answered ≡ filter_map (λ (row : Row). record_answer (of institution rows) called query (record_of row)) seen
-    → answered ≡ answers_of_records (of institution rows) called query
-answered_of_candidates institution rows called query found seen answered sound facts alone days found_is seen_is answered_is =
-    let each = λ (row : Row). record_answer (of institution rows) called query (record_of row) in
-    answered_is ∙ ap (filter_map each) (seen_is ∙ found_is)
-    ∙ given_of_each each (row_of institution) (query_candidates (of institution rows) query)
+pub answered_of_candidates : (institution : List ℕ) (rows : List Row) (called : List ℕ) (query : Query) → IsSound rows → IsDataSet query.keys → EachAlone query.keys
+    → DaysAreInOrder → row_answers (of institution rows) called query (map (row_of institution) (query_candidates (of institution rows) query))
+    ≡ answers_of_records (of institution rows) called query
+answered_of_candidates institution rows called query sound facts alone days =
+    given_of_each (λ (row : Row). record_answer (of institution rows) called query (record_of row)) (row_of institution) (query_candidates (of institution rows) query)
     ∙ sym (skipped institution rows called query sound (facts_give_known_vrs 16 None query.keys facts) alone days)
 
 -- where none are looked up, all that are asked for are looked at

@@ -1,7 +1,8 @@
 -- Where a query gives its level's own unique key values, no record with another matches.
-use Rattle.std.proofs.Common.{◌≡◌, ℕ, Bool, true, false, ◌||◌, ◌&&◌, not, List, [], ◌∷◌, Option, Some, None, is_some, unwrap_or, inl, inr, refl, sym, ap, ◌∙◌, arith}
+use Rattle.std.proofs.Common.{◌≡◌, ℕ, Bool, true, false, ◌||◌, ◌&&◌, List, [], ◌∷◌, Option, Some, None, is_some, unwrap_or, inl, inr, refl, sym, ap, ◌∙◌, arith}
 use Rattle.std.specs.List.{AllByRecursion, list_any}
 use Rattle.std.specs.Str.{bytes_eq}
+use Rattle.std.proofs.lemmas.Bool.{not-true}
 use Rattle.std.proofs.lemmas.Slice.Eq.{bytes_eq-Decides}
 use Rattle.dq_list.specs.Among.{IsAmong}
 use Rattle.dq_list.specs.Lengths.{is_empty}
@@ -65,12 +66,8 @@ or_none : (b : Bool) → (b || false) ≡ true → b ≡ true
 or_none true h = refl
 or_none false h = h
 
-not_asterisk : (b : Bool) → not b ≡ true → b ≡ false
-not_asterisk true h = absurd cc
-not_asterisk false h = refl
-
 no_asterisk : (first : List ℕ) (others : List (List ℕ)) → names_records (first ∷ others) ≡ true → is_asterisk (first ∷ others) ≡ false
-no_asterisk first [] h = not_asterisk (bytes_eq first (any_run ∷ [])) h
+no_asterisk first [] h = not-true (bytes_eq first (any_run ∷ [])) h
 no_asterisk first (next ∷ others) h = refl
 
 met_among : (key held other : List ℕ) (values : List (List ℕ)) → element_values UI key ≡ values → element_values UI held ≡ other ∷ [] → names_records values ≡ true

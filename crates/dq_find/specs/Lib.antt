@@ -5,7 +5,6 @@ pub mod Computed
 pub mod Queries
 pub mod Choosing
 pub mod Candidates
-pub mod Kept
 pub mod Answers
 pub mod Pages
 pub mod Examples

@@ -1,22 +1,20 @@
 //! The answers to a query (PS3.4 sections C.4.1.3 and C.6.2).
-ghost use Rattle.std.specs.Prelude.{◌≡◌, true, false, [], IfOk, Some, map, filter, take, drop, option_map};
-ghost use Rattle.std.specs.List.{filter_map, list_all};
+ghost use Rattle.std.specs.Prelude.{◌≡◌, true, false, [], IfOk, List, Some, None, map, filter, option_map};
+ghost use Rattle.std.specs.List.{filter_map};
 ghost use Rattle.dq_list.specs.Octets.{octets_of_vectors};
-ghost use Rattle.dq_dataset.specs.View.{elements_of};
 ghost use Rattle.dq_dimse.specs.Holding.{plain_message};
 ghost use Rattle.dq_match.specs.Answers.{found_part};
+ghost use Rattle.dq_match.specs.Parts.{part_of, found_of};
 ghost use Rattle.dq_match.specs.Universal.{asks_nothing};
 ghost use Rattle.dq_match.specs.Identifiers.{HasKnownTags};
-ghost use Rattle.dq_tables.specs.Records.{data_set_of};
 ghost use Rattle.dq_tables.specs.Keeping.{Reads};
-ghost use Rattle.dq_tables.specs.Rows.{of, record_of, row_of};
+ghost use Rattle.dq_tables.specs.Rows.{Record, of, record_of, row_of};
 ghost use Rattle.dq_tables.specs.Serving.{Serves};
-ghost use Rattle.dq_archive.specs.Archives.{Looks, Decides};
+ghost use Rattle.dq_archive.specs.Archives.{Looks};
 ghost use Rattle.dq_find.specs.declared.level.Level.TheVariants.{Study};
 ghost use Rattle.dq_find.specs.Choosing.{is_asked};
 ghost use Rattle.dq_find.specs.Candidates.{looks_up, query_candidates, is_under, named_record, named_rows, looked_up};
-ghost use Rattle.dq_find.specs.Kept.{is_key_met};
-ghost use Rattle.dq_find.specs.Computed.{computed_keys, all_in_order};
+ghost use Rattle.dq_find.specs.Computed.{computed_keys};
 ghost use Rattle.dq_value.specs.Parts.{element_values};
 ghost use Rattle.dq_vr.specs.declared.Vr.TheVariants.{UI};
 ghost use Rattle.dq_find.specs.Queries.{about_answers, key_above, asks_computed, asked_records, answer_if, record_answer, answers_of_records, found_by, query_outcome, keys_outcome};
@@ -27,14 +25,14 @@ use crate::computed::{octets_at, series_computed, study_computed};
 use crate::level::Level;
 use crate::query::{Query, query_at, query_of};
 use crate::texts::{Text, elements};
-use dq_archive::{Archive, Decision};
+use dq_archive::Archive;
 use dq_config::Institution;
 use dq_dataset::{DataSet, Syntax};
 use dq_dimse::Message;
 use dq_dimse::status::SUCCESS;
 use dq_list::Listed;
 use dq_match::laws::{keys_are_met_alone_and_as_a_period, universal_keys_are_met};
-use dq_match::{Found, PreparedKeys, asks_nothing, shown};
+use dq_match::{Found, Part, PreparedKeys, asks_nothing, in_order, shown};
 use dq_tables::laws::{day_numbers_are_in_order, honest_rows_are_sound};
 use dq_tables::{Kind, Row, TableFault, Tables, uid_at};
 use dq_value::{stripped, values};
@@ -200,7 +198,7 @@ impl Search<'_> {
         if !looks_up(self.query.level, values) {
             return self.asked_rows(archive);
         }
-        let uids = uids_in_order(archive.alloc, values)?;
+        let uids = in_order(archive.alloc, Vr::UI, values)?;
         self.rows_named(archive, uids)
     }
 
@@ -244,9 +242,10 @@ impl Search<'_> {
     /// are read.
     fn may_fit(&self, row: &Row) -> bool
         requires { self.now.prepared.now ≡ self.now.query.now.keys }
-        ensures { result ≡ false → list_all (is_key_met (data_set_of row.now.octets))
-            (elements_of self.now.query.now.keys) ≡ false }
+        ensures { result ≡ false → (records : List Record)
+            → record_answer records self.now.called.now self.now.query.now (record_of row.now) ≡ None }
     {
+        keys_are_met_alone_and_as_a_period();
         self.prepared.lent_meets(&MET_LATER, row.octets.as_slice())
     }
 
@@ -280,88 +279,61 @@ impl Search<'_> {
         Ok(self.answer(archive.alloc, about, &held)?)
     }
 
-    /// The answers that some rows give, in their order.
+    /// The answers that some rows give, in their order, from a place on, at most so many where there
+    /// is a most. No row is looked at behind the last of them.
     fn answers_of<T: Tables>(
         &self,
         archive: &mut Archive<'_, T>,
         rows: &[Row],
-    ) -> Result<Listed<DataSet>, TableFault>
-        requires known { HasKnownTags self.now.query.now.keys }
-        requires prepared { self.now.prepared.now ≡ self.now.query.now.keys }
-        ensures { Looks T.state archive.old archive.new (λ records. filter_map
-            (λ (row : TheRow). record_answer records self.now.called.now self.now.query.now
-            (record_of row)) rows.now) result }
-    {
-        let about = about_answers(archive.alloc, self.called, self.query.level)?;
-        let mut answers = Listed::empty(archive.alloc);
-        for row in rows {
-            let answer = self.answer_of(archive, &about, row)?;
-            if let Some(answer) = answer {
-                answers.push(answer)?;
-            }
-        }
-        Ok(answers)
-    }
-
-    /// The answers that some rows give, in their order, from a place on, at most so many. No row is
-    /// looked at behind the last of them.
-    #[tactic(auto, using(crate::proofs::InParts::in_parts))]
-    fn answers_from<T: Tables>(
-        &self,
-        archive: &mut Archive<'_, T>,
-        rows: &[Row],
         from: usize,
-        most: usize,
+        most: Option<usize>,
     ) -> Result<Listed<DataSet>, TableFault>
         requires known { HasKnownTags self.now.query.now.keys }
         requires prepared { self.now.prepared.now ≡ self.now.query.now.keys }
-        ensures { Looks T.state archive.old archive.new (λ records. take most (drop from (filter_map
+        ensures { Looks T.state archive.old archive.new (λ records. part_of from most (filter_map
             (λ (row : TheRow). record_answer records self.now.called.now self.now.query.now
-            (record_of row)) rows.now))) result }
+            (record_of row)) rows.now)) result }
     {
         let about = about_answers(archive.alloc, self.called, self.query.level)?;
-        let mut before = from;
-        let mut answers = Listed::empty(archive.alloc);
+        let mut part = Part::new(archive.alloc, from, most);
         for row in rows {
-            if answers.len() >= most {
-                return Ok(answers);
+            if part.is_full() {
+                return Ok(part.into_answers());
             }
             let answer = self.answer_of(archive, &about, row)?;
-            if let Some(answer) = answer {
-                if before == 0 {
-                    answers.push(answer)?;
-                } else {
-                    before -= 1;
-                }
-            }
+            part.take(answer)?;
         }
-        Ok(answers)
+        Ok(part.into_answers())
     }
 
-    /// The answers from a place on, at most so many. Where studies are asked nothing each of them
-    /// answers, so no other is read.
+    /// The answers from a place on, at most so many where there is a most. Where studies are asked
+    /// nothing each of them answers, so no other is read.
     fn part<T: Tables>(
         &self,
         archive: &mut Archive<'_, T>,
         from: usize,
-        most: usize,
+        most: Option<usize>,
     ) -> Result<Listed<DataSet>, TableFault>
         requires known { HasKnownTags self.now.query.now.keys }
         requires prepared { self.now.prepared.now ≡ self.now.query.now.keys }
-        ensures { Looks T.state archive.old archive.new (λ records. take most (drop from
-            (answers_of_records records self.now.called.now self.now.query.now))) result }
+        ensures { Looks T.state archive.old archive.new (λ records. part_of from most
+            (answers_of_records records self.now.called.now self.now.query.now)) result }
     {
         universal_keys_are_met();
-        if takes_all_studies(self.query) {
-            let rows = archive.rows_from(Kind::Study, from, most)?;
-            return self.answers_of(archive, rows.as_slice());
-        }
         self.query.keys.has_facts();
         honest_rows_are_sound::<T>();
         day_numbers_are_in_order();
         keys_are_met_alone_and_as_a_period();
-        let rows = self.rows(archive)?;
-        self.answers_from(archive, rows.as_slice(), from, most)
+        match most {
+            Some(most) if takes_all_studies(self.query) => {
+                let rows = archive.rows_from(Kind::Study, from, most)?;
+                self.answers_of(archive, rows.as_slice(), 0, None)
+            }
+            _ => {
+                let rows = self.rows(archive)?;
+                self.answers_of(archive, rows.as_slice(), from, most)
+            }
+        }
     }
 }
 
@@ -378,19 +350,6 @@ fn looks_up(level: Level, octets: &[u8]) -> bool
         return false;
     }
     first != b"*".as_slice()
-}
-
-/// The values of a unique key in the order of their octets, each once.
-fn uids_in_order(alloc: Global, octets: &[u8]) -> Result<BTreeSet<Vec<u8>>, AllocError>
-    ensures { IfOk result (λ uids. octets_of_vectors uids.keys
-        ≡ all_in_order (element_values UI octets.now) []) }
-{
-    let mut uids = BTreeSet::new(alloc);
-    let mut parts = values(Vr::UI, octets);
-    while let Some(part) = parts.next() {
-        uids.insert(Vec::from_slice(alloc, part)?)?;
-    }
-    Ok(uids)
 }
 
 /// Whether a query is for studies, and asks nothing of them.
@@ -414,6 +373,7 @@ fn asks_computed(query: &Query) -> bool
 /// with status A700 where the identifier is too long, C000 where it is unreadable, and A900 where
 /// it names no level, lacks a unique key of a level above, or has values that are not well formed
 /// (PS3.4 section C.4.1.1.4).
+#[tactic(auto, using(dq_tables::proofs::Calling::serves_read), unfolding(crate::specs::Queries::query_outcome))]
 pub fn find<T: Tables>(
     tables: &mut T,
     institution: &Institution,
@@ -425,8 +385,9 @@ pub fn find<T: Tables>(
         (λ records. (query_outcome records called.now (plain_message message.now) syntax, [])) result }
 {
     let mut archive = Archive::new(tables, institution);
-    let decision = decide_answers(&mut archive, called, message, syntax)?;
-    archive.carry_out(decision)
+    let asked = query_of(archive.alloc, message, syntax)?;
+    let found = answers_to(&mut archive, called, asked, 0, None)?;
+    Ok(found)
 }
 
 /// Answers keys that no message brought, an identifier with its Query/Retrieve Level, as `find`
@@ -446,79 +407,33 @@ pub fn find_by_keys<T: Tables>(
 {
     let mut kept = Archive::new(tables, institution);
     let asked = query_at(kept.alloc, identifier)?;
-    part_of_answers(&mut kept, asked, from, most)
+    answers_to(&mut kept, &[], asked, from, Some(most))
 }
 
-/// The answers to a query from a place on, at most so many, or the status that refuses it.
-fn part_of_answers<T: Tables>(
-    archive: &mut Archive<'_, T>,
-    asked: Result<Query, u16>,
-    from: usize,
-    most: usize,
-) -> Result<Found, TableFault>
-    requires { IfOk asked (λ query. HasKnownTags query.keys) }
-    ensures { Looks T.state archive.old archive.new
-        (λ records. found_part from most (found_by records [] asked)) result }
-{
-    let query = match asked {
-        Ok(query) => query,
-        Err(status) => return Ok(Found::refused(archive.alloc, status)),
-    };
-    let prepared = PreparedKeys::of(archive.alloc, &query.keys)?;
-    let search = Search {
-        called: &[],
-        query: &query,
-        prepared: &prepared,
-    };
-    let answers = search.part(archive, from, most)?;
-    Ok(Found {
-        status: SUCCESS,
-        optional: query.optional,
-        answers,
-    })
-}
-
-/// The answers to a Study Root C-FIND, which change nothing.
-fn decide_answers<T: Tables>(
-    archive: &mut Archive<'_, T>,
-    called: &[u8],
-    message: &Message,
-    syntax: Syntax,
-) -> Result<Decision<Found>, TableFault>
-    ensures { Decides T.state archive.old archive.new (λ records.
-        (query_outcome records called.now (plain_message message.now) syntax, [])) result }
-{
-    let asked = query_of(archive.alloc, message, syntax)?;
-    let found = answers_to(archive, called, asked)?;
-    Ok(Decision::unchanged(found))
-}
-
-/// The answers to a query, or the status that refuses it.
+/// The answers to a query from a place on, at most so many where there is a most, or the status that
+/// refuses it.
 fn answers_to<T: Tables>(
     archive: &mut Archive<'_, T>,
     called: &[u8],
     asked: Result<Query, u16>,
+    from: usize,
+    most: Option<usize>,
 ) -> Result<Found, TableFault>
     requires { IfOk asked (λ query. HasKnownTags query.keys) }
-    ensures { Looks T.state archive.old archive.new (λ records. found_by records called.now asked)
-        result }
+    ensures { Looks T.state archive.old archive.new
+        (λ records. found_of from most (found_by records called.now asked)) result }
 {
     let query = match asked {
         Ok(query) => query,
         Err(status) => return Ok(Found::refused(archive.alloc, status)),
     };
-    query.keys.has_facts();
-    honest_rows_are_sound::<T>();
-    day_numbers_are_in_order();
-    keys_are_met_alone_and_as_a_period();
     let prepared = PreparedKeys::of(archive.alloc, &query.keys)?;
     let search = Search {
         called,
         query: &query,
         prepared: &prepared,
     };
-    let rows = search.rows(archive)?;
-    let answers = search.answers_of(archive, rows.as_slice())?;
+    let answers = search.part(archive, from, most)?;
     Ok(Found {
         status: SUCCESS,
         optional: query.optional,

@@ -1,15 +1,21 @@
 -- Which keys are met alone: those that are left when what tells how a query is answered, and the
 -- date and the time of a period, are passed over.
-use Rattle.std.proofs.lemmas.Bool.{and_parts, or_parts}
-use Rattle.std.proofs.Common.{◌≡◌, Bool, true, false, ◌||◌, ◌&&◌, List, [], ◌∷◌, ◌++◌, inl, inr, refl, sym, ap, ◌∙◌, arith}
+use Rattle.std.proofs.Common.{◌≡◌, Bool, true, false, ◌||◌, ◌&&◌, List, [], ◌∷◌, ◌++◌, inl, inr, is_some, refl, sym, ap, ◌∙◌, arith}
 use Rattle.std.specs.List.{list_any, list_all}
+use Rattle.std.proofs.lemmas.Bool.{and_parts}
 use Rattle.dq_list.specs.Among.{IsAmong}
 use Rattle.dq_vr.specs.declared.Tag.{Tag}
 use Rattle.dq_vr.specs.Tags.{scheduled_procedure_step_start_date, scheduled_procedure_step_start_time}
+use Rattle.dq_dataset.specs.declared.data_set.Element.{Element}
+use Rattle.dq_dataset.specs.Tree.{ElementList}
+use Rattle.dq_dataset.specs.View.{elements_of}
+use Rattle.dq_dataset.specs.Values.{element_at}
 use Rattle.dq_match.specs.declared.keys.Place.{Place}
 use Rattle.dq_match.specs.declared.keys.Place.TheVariants.{Outer}
-use Rattle.dq_match.specs.Keys.{is_tag, is_key, other_than_keys}
-use Rattle.dq_match.specs.Matching.{is_matched_elsewhere, is_start}
+use Rattle.dq_match.specs.Keys.{is_key, other_than_keys}
+use Rattle.dq_match.specs.AsLent.{is_left, is_met_at_once}
+use Rattle.dq_match.specs.Fitting.{EachIsMet}
+use Rattle.dq_match.specs.Matching.{period, fits, meets, is_matched_elsewhere, is_start}
 
 pub all_pass : {X : Type 0} (p : X → Bool) (xs : List X) → ((x : X) → IsAmong x xs → p x ≡ true) → list_all p xs ≡ true
 all_pass p [] each = refl
@@ -26,23 +32,36 @@ not_passed false place tag is none = rw (is) refl
 
 none_of : (p : Tag → Bool) (first others : List Tag) → list_any p (first ++ others) ≡ false → (list_any p first ≡ false) × (list_any p others ≡ false)
 none_of p [] others h = (refl, h)
-none_of p (x ∷ first) others h =
-    let parts = or_parts (p x) (list_any p (first ++ others)) h in
-    let rest = none_of p first others parts.1 in
-    ((λ i. parts.0 i || rest.0 i), rest.1)
-
-no_start : (a b : Bool) → (a || (b || false)) ≡ false → (a || b) ≡ false
-no_start true b h = absurd cc
-no_start false true h = absurd cc
-no_start false false h = refl
+none_of p (x ∷ first) others h = grind (arith, none_of p first others)
 
 abbrev pub starts : List Tag
 starts = scheduled_procedure_step_start_date ∷ scheduled_procedure_step_start_time ∷ []
 
-abbrev is_among : List Tag → Tag → Bool
-is_among tags tag = list_any (λ one. is_tag one tag) tags
-
 -- a key that is none of those and none of some others
-pub stands_alone : (joined : Bool) (others : List Tag) (tag : Tag) → is_among (other_than_keys ++ (others ++ starts)) tag ≡ false
-    → (is_among others tag ≡ false) × (is_matched_elsewhere Outer joined tag ≡ false)
-stands_alone joined others tag h = grind (arith, none_of, not_passed, no_start)
+pub stands_alone : (joined : Bool) (others : List Tag) (tag : Tag) → is_left (other_than_keys ++ (others ++ starts)) tag ≡ false
+    → (is_left others tag ≡ false) × (is_matched_elsewhere Outer joined tag ≡ false)
+stands_alone joined others tag h = grind (arith, none_of, not_passed)
+
+-- what does not hold of one does not hold of the other
+pub unless : (a b : Bool) → (a ≡ true → b ≡ true) → b ≡ false → a ≡ false
+unless true b h none = sym (h refl) ∙ none
+unless false b h none = refl
+
+-- A record that does not meet each key that is met alone does not fit, whatever else is told of it.
+module _ (others : List Tag) (keys held whole : ElementList)
+    (same : (tag : Tag) → is_left others tag ≡ false → element_at tag whole ≡ element_at tag held)
+    (alone : fits keys whole ≡ true → EachIsMet Outer keys whole) where
+  abbrev later : List Tag
+  later = other_than_keys ++ (others ++ starts)
+
+  met_by : (b : Bool) (asked : Element) → is_left later asked.tag ≡ b → IsAmong asked (elements_of keys) → fits keys whole ≡ true
+      → (b || meets asked (element_at asked.tag held)) ≡ true
+  met_by true asked left among fit = refl
+  met_by false asked left among fit =
+      let stands = stands_alone (is_some (period keys whole)) others asked.tag left in
+      ap (meets asked) (sym (same asked.tag stands.0)) ∙ alone fit asked among stands.1
+
+  pub unfit : list_all (is_met_at_once later held) (elements_of keys) ≡ false → fits keys whole ≡ false
+  unfit =
+      unless (fits keys whole) (list_all (is_met_at_once later held) (elements_of keys))
+      (λ fit. all_pass (is_met_at_once later held) (elements_of keys) (λ asked among. met_by (is_left later asked.tag) asked refl among fit))

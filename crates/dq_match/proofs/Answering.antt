@@ -51,9 +51,5 @@ given_skipped f p (x ∷ xs) none = skip_step f p x xs (p x) refl (none x (inl r
 
 -- ---- the answer to keys
 
-answer_by : (b : Bool) (shown_part d : ElementList) → (if b then Some shown_part else None) ≡ Some d → (b ≡ true) × (d ≡ shown_part)
-answer_by true shown_part d e = (refl, cc)
-answer_by false shown_part d e = cc
-
 pub answer_to : (keys held : ElementList) → fits keys held ≡ true → answer_to_keys keys held ≡ Some (shown_data_set keys held)
 answer_to keys held fit = rw fit refl

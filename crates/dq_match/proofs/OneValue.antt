@@ -1,8 +1,7 @@
 -- A key with one value that stands alone, against a record's element with one value: it is met by
 -- that value. A key without wild cards is then that value, and a date is not outside the key.
-use Rattle.std.proofs.Common.{◌≡◌, ℕ, ℤ, ◌≤ℤ◌, int_le, int_lt, Bool, true, false, ◌||◌, ◌&&◌, List, [], ◌∷◌, find, Option, Some, None, is_some, unwrap_or, option_map, IfSome, inl, inr, refl, sym, ap, subst, ◌∙◌, cond, arith}
+use Rattle.std.proofs.Common.{◌≡◌, ℕ, ℤ, ◌≤ℤ◌, int_le, Bool, true, false, ◌||◌, ◌&&◌, List, [], ◌∷◌, find, Option, Some, None, is_some, unwrap_or, option_map, inl, inr, refl, sym, ap, subst, ◌∙◌, cond, arith}
 use Rattle.std.specs.List.{AllByRecursion}
-use Rattle.std.specs.Ordering.{int_eq}
 use Rattle.std.specs.Str.{bytes_eq}
 use Rattle.std.proofs.lemmas.Bool.{and_parts}
 use Rattle.std.proofs.lemmas.Bool.Decides.{nat_tests}
@@ -13,14 +12,12 @@ use Rattle.dq_list.specs.Lengths.{is_empty}
 use Rattle.dq_vr.specs.declared.Tag.{Tag}
 use Rattle.dq_vr.specs.declared.Vr.{Vr}
 use Rattle.dq_vr.specs.declared.Vr.TheVariants.{DA, LO, SH, UN}
-use Rattle.dq_vr.specs.Dictionary.{dictionary, vr_in, known_vr}
-use Rattle.dq_vr.specs.Tags.{scheduled_procedure_step_start_date}
+use Rattle.dq_vr.specs.Dictionary.{known_vr}
 use Rattle.dq_vr.specs.Vr.{is_text}
 use Rattle.dq_value.specs.Digits.{◌>>=◌}
 use Rattle.dq_value.specs.Day.{date_in, day}
 use Rattle.dq_value.specs.Parts.{element_values, sole}
 use Rattle.dq_value.specs.Range.{Ends, halves, behind, ends_of_halves, range_ends}
-use Rattle.dq_value.specs.Time.{Span}
 use Rattle.dq_value.specs.Trimming.{is_padded}
 use Rattle.dq_dataset.specs.declared.data_set.Element.{Element}
 use Rattle.dq_dataset.specs.declared.data_set.Value.{Value}
@@ -30,11 +27,10 @@ use Rattle.dq_dataset.specs.View.{elements_of, has_tag}
 use Rattle.dq_dataset.specs.Values.{element_at, element_octets, values_of, values_in, sole_at}
 use Rattle.dq_dataset.proofs.KnownVrs.{HasKnownVr}
 use Rattle.dq_match.specs.declared.keys.Place.{Place}
-use Rattle.dq_match.specs.declared.keys.Place.TheVariants.{Inner}
-use Rattle.dq_match.specs.Fitting.{EachIsMet, PeriodIsMet}
+use Rattle.dq_match.specs.Fitting.{EachIsMet}
 use Rattle.dq_match.specs.Keys.{is_tag}
-use Rattle.dq_match.specs.Matching.{asked_days, start_day, asked_times, start_time, period, is_matched_elsewhere, meets}
-use Rattle.dq_match.specs.Ranges.{Bounds, bound, bounds_of_ends, range_bounds, bounds_by_ends, bounds, single, unless_open, has_day, both, date_meets, is_in_range}
+use Rattle.dq_match.specs.Matching.{period, is_matched_elsewhere, meets}
+use Rattle.dq_match.specs.Ranges.{Bounds, bound, bounds_of_ends, bounds_by_ends, bounds, single, unless_open, has_day, both, date_meets}
 use Rattle.dq_match.specs.Several.{is_plain}
 use Rattle.dq_match.specs.Values.{is_same, is_asterisk, is_universal, octets_meet, some_meet, value_meets, matching_of}
 use Rattle.dq_match.specs.Wildcards.{any_run}
@@ -43,10 +39,7 @@ use Rattle.dq_match.proofs.SeveralValues.{plain_meets}
 -- ---- an element with one value
 
 pub same_tag : (a b : Tag) → is_tag a b ≡ true → a ≡ b
-same_tag a b h =
-    let group : a.group ≡ b.group = grind (arith, nat_tests) in
-    let number : a.element ≡ b.element = grind (arith, nat_tests) in
-    λ i. record { group = group i; element = number i }
+same_tag a b h = grind (arith, nat_tests)
 
 -- the element with a tag has a VR, and octets that hold exactly one value
 pub record HasOne (vr : Vr) (tag : Tag) (d : ElementList) (value : List ℕ) : Type 0 where
@@ -169,9 +162,6 @@ pub record IsBetween (both_ends : Ends) (value : List ℕ) : Type 0 where
 le_true : (a b : ℤ) → int_le a b ≡ true → a ≤ℤ b
 le_true a b h = grind (arith, ints)
 
-lt_or_same : (a b : ℤ) (also : Bool) → (int_lt a b || (int_eq a b && also)) ≡ true → a ≤ℤ b
-lt_or_same a b also h = grind (arith, ints)
-
 module _ (value : List ℕ) (y : ℤ) (at : day value ≡ Some y) where
   first_by : (end : Option (List ℕ)) (bounded : Option ℤ) → bound day end ≡ Some bounded
       → ((x : ℤ) → bounded ≡ Some x → x ≤ℤ y) → (first : List ℕ) (x z : ℤ) → end ≡ Some first → day first ≡ Some x → day value ≡ Some z → x ≤ℤ z
@@ -201,10 +191,6 @@ module _ (value : List ℕ) (y : ℤ) (at : day value ≡ Some y) where
 
   in_days : (found : Ends) (days : Bounds ℤ) → bounds_of_ends day found ≡ Some days → has_day days y ≡ true → IsBetween found value
   in_days found days is h = grind (arith, nat_tests, and_parts, between_by, le_true)
-
-  in_period : (found : Ends) (days : Bounds ℤ) (times : Bounds Span) (time : Span) → bounds_of_ends day found ≡ Some days
-      → is_in_range days times y time ≡ true → IsBetween found value
-  in_period found days times time is h = grind (arith, nat_tests, and_parts, between_by, lt_or_same)
 
 no_date : (octets : List ℕ) (x : ℤ) → octets ≡ any_run ∷ [] → day octets ≡ Some x → ⊥
 unfolding day date_in
@@ -252,41 +238,3 @@ module _ (key value : List ℕ) where
   pub date_between : is_met_by DA key value ≡ true → IsBetween (ends_asked key) value
   unfolding is_padded is_text matching_of
   date_between h = by_asterisk (is_same key (any_run ∷ [])) refl h
-
-  by_period : (found : Option Ends) (days : Option (Bounds ℤ)) (times : Option (Bounds Span)) (date : Option ℤ) (time : Option Span)
-      → found >>= bounds_of_ends day ≡ days → day value ≡ date
-      → days >>= (λ d. times >>= (λ t. date >>= (λ on. time >>= (λ from. Some (is_in_range d t on from))))) ≡ Some true → IsBetween (either found) value
-  by_period None None times date time is at h = absurd cc
-  by_period None (Some d) times date time is at h = absurd cc
-  by_period (Some found) None times date time is at h = absurd cc
-  by_period (Some found) (Some d) None date time is at h = absurd cc
-  by_period (Some found) (Some d) (Some t) None time is at h = absurd cc
-  by_period (Some found) (Some d) (Some t) (Some y) None is at h = absurd cc
-  by_period (Some found) (Some d) (Some t) (Some y) (Some from) is at h =
-      let within : is_in_range d t y from ≡ true = cc in
-      in_period value y at found d t from is within
-
-  module _ (keys held : ElementList) (wanted : sole_at scheduled_procedure_step_start_date keys ≡ Some key)
-      (there : sole_at scheduled_procedure_step_start_date held ≡ Some value) where
-    period_between : period keys held ≡ Some true → IsBetween (ends_asked key) value
-    unfolding period asked_days start_day range_bounds
-    period_between h =
-        by_period (range_ends key) (range_ends key >>= bounds_of_ends day) (asked_times keys) (day value) (start_time held) refl refl
-        ((λ i. sym wanted i >>= range_bounds day >>= (λ d. asked_times keys >>= (λ t. sym there i >>= day >>= (λ on. start_time held >>= (λ from.
-        Some (is_in_range d t on from)))))) ∙ h)
-
-    module _ (known_keys : AllByRecursion HasKnownVr (elements_of keys)) (known_held : AllByRecursion HasKnownVr (elements_of held))
-        (each : EachIsMet Inner keys held) where
-      start_is_date : known_vr scheduled_procedure_step_start_date ≡ Some DA
-      unfolding known_vr vr_in dictionary
-      start_is_date = refl
-
-      by_joined : (joined : Option Bool) → period keys held ≡ joined → IfSome joined (λ inside. inside ≡ true) → IsBetween (ends_asked key) value
-      by_joined None is met =
-          date_between (one_met DA scheduled_procedure_step_start_date start_is_date Inner keys held held known_keys known_held refl each
-          (ap (λ (o : Option Bool). is_matched_elsewhere Inner (is_some o) scheduled_procedure_step_start_date) is) key value wanted there)
-      by_joined (Some inside) is met = period_between (is ∙ ap Some met)
-
-      -- whether it is met alone or as the date of a period
-      pub start_between : PeriodIsMet keys held → IsBetween (ends_asked key) value
-      start_between met = by_joined (period keys held) refl met

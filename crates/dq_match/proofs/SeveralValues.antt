@@ -8,6 +8,7 @@ use Rattle.std.specs.Cmp.Lexicographic.{slice_cmp}
 use Rattle.std.specs.Ordering.{match_ordering, is_eq}
 use Rattle.std.specs.declared.cmp.Ordering.{Ordering}
 use Rattle.std.specs.declared.cmp.Ordering.TheVariants.{Less, Equal, Greater}
+use Rattle.std.proofs.lemmas.Bool.{and_parts}
 use Rattle.std.proofs.lemmas.Bool.Decides.{nat_tests}
 use Rattle.std.proofs.lemmas.Map.Text.{is_eq-slice_cmp}
 use Rattle.std.proofs.lemmas.Slice.Eq.{bytes_eq-Decides}
@@ -50,15 +51,6 @@ plain_by_equality (key ∷ keys) plain value =
 
 -- ---- a value that is put into a set
 
-or_same : (a b c d : Bool) → d ≡ (b || c) → (a || d) ≡ (b || (a || c))
-or_same true true c d h = refl
-or_same true false c d h = refl
-or_same false b c d h = h
-
-again : (a b : Bool) → (a || b) ≡ (a || (a || b))
-again true b = refl
-again false b = refl
-
 abbrev order : Vec ℕ → Vec ℕ → Ordering
 order a b = slice_cmp nat_cmp a.items b.items
 
@@ -70,11 +62,8 @@ put_by : (o : Ordering) (value : List ℕ) (new first : Vec ℕ) (others put : L
     → is_one_of_values value (octets_of_vectors (match_ordering o (new ∷ (first ∷ others)) (first ∷ others) (first ∷ put)))
     ≡ (is_same value new.items || (is_same value first.items || is_one_of_values value (octets_of_vectors others)))
 put_by Less value new first others put is rest = refl
-put_by Equal value new first others put is rest =
-    again (is_same value first.items) (is_one_of_values value (octets_of_vectors others))
-    ∙ ap (λ (o : List ℕ). is_same value o || (is_same value first.items || is_one_of_values value (octets_of_vectors others))) (sym (same_items new.items first.items is))
-put_by Greater value new first others put is rest =
-    or_same (is_same value first.items) (is_same value new.items) (is_one_of_values value (octets_of_vectors others)) (is_one_of_values value (octets_of_vectors put)) rest
+put_by Equal value new first others put is rest = grind (arith, same_items new.items first.items is)
+put_by Greater value new first others put is rest = grind arith
 
 put_among : (value : List ℕ) (new : Vec ℕ) (set : List (Vec ℕ))
     → is_one_of_values value (octets_of_vectors (insert_key order set new)) ≡ (is_same value new.items || is_one_of_values value (octets_of_vectors set))

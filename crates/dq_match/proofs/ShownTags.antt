@@ -15,7 +15,7 @@ use Rattle.dq_match.specs.declared.keys.Place.TheVariants.{Outer}
 use Rattle.dq_match.specs.Keys.{is_tag, is_key}
 use Rattle.dq_match.specs.Responses.{put, or_empty, with_cut, shown_keys, unless_empty, character_set, put_first, shown_data_set}
 use Rattle.dq_match.specs.ShownTags.{tags_of, set_tags}
-use Rattle.dq_match.proofs.KnownKeys.{same_tag}
+use Rattle.dq_match.proofs.OneValue.{same_tag}
 use Rattle.dq_value.specs.Parts.{element_values}
 use Rattle.dq_list.specs.Lengths.{is_empty}
 

@@ -19,3 +19,4 @@ pub mod AsLent
 pub mod Prepared
 pub mod PreparedFalls
 pub mod Answers
+pub mod Parts

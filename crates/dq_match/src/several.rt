@@ -1,5 +1,9 @@
 //! Several values of a key, which are put in order to be looked up.
 ghost use Rattle.std.specs.Prelude.{◌≡◌, ℕ, List, IfOk};
+ghost use Rattle.std.specs.Cmp.Lexicographic.{slice_cmp};
+ghost use Rattle.std.specs.Global.{Vec};
+ghost use Rattle.std.specs.List.Sorted.{IsStrictlySortedBy};
+ghost use Rattle.std.specs.Ordering.{nat_cmp};
 ghost use Rattle.std.specs.List.{list_all};
 ghost use Rattle.dq_list.specs.Octets.{octets_of_vectors};
 ghost use Rattle.dq_value.specs.Parts.{element_values};
@@ -36,14 +40,12 @@ pub(crate) fn all_plain(vr: Vr, key: &[u8]) -> bool
     true
 }
 
-/// The values in the order of their octets.
-pub(crate) fn in_order(
-    alloc: Global,
-    vr: Vr,
-    octets: &[u8],
-) -> Result<BTreeSet<Vec<u8>>, AllocError>
-    ensures { IfOk result (λ set. (value : List ℕ)
+/// Returns the values in the order of their octets, each once.
+pub fn in_order(alloc: Global, vr: Vr, octets: &[u8]) -> Result<BTreeSet<Vec<u8>>, AllocError>
+    ensures values { IfOk result (λ set. (value : List ℕ)
         → is_one_of_values value (octets_of_vectors set.keys) ≡ is_one_of_values value (element_values vr octets.now)) }
+    ensures ordered { IfOk result (λ set. IsStrictlySortedBy
+        (λ (a b : Vec ℕ). slice_cmp nat_cmp a.items b.items) set.keys) }
 {
     let mut set = BTreeSet::new(alloc);
     let mut all = values(vr, octets);

@@ -196,12 +196,18 @@ fn below_step(tag: Tag) -> KeyScope
     }
 }
 
+/// What is supported, and whether something is not.
 #[cycle(supported)]
-fn supported_part(alloc: Global, scope: KeyScope, keys: &DataSet) -> Result<DataSet, AllocError>
-    ensures { IfOk result (λ part. part ≡ supported_part scope keys.now) }
+fn supported_part(
+    alloc: Global,
+    scope: KeyScope,
+    keys: &DataSet,
+) -> Result<(DataSet, bool), AllocError>
+    ensures part { IfOk result (λ struck. struck.0 ≡ supported_part scope keys.now) }
+    ensures optional { IfOk result (λ struck. struck.1 ≡ has_unsupported scope keys.now) }
 {
-    let elements = supported_elements(alloc, scope, keys.elements())?;
-    Ok(DataSet::from_elements(elements))
+    let (elements, optional) = supported_elements(alloc, scope, keys.elements())?;
+    Ok((DataSet::from_elements(elements), optional))
 }
 
 #[cycle(supported)]
@@ -209,36 +215,47 @@ fn supported_elements(
     alloc: Global,
     scope: KeyScope,
     keys: &[Element],
-) -> Result<Vec<Element>, AllocError>
-    ensures { IfOk result (λ kept. kept.items
+) -> Result<(Vec<Element>, bool), AllocError>
+    ensures part { IfOk result (λ struck. struck.0.items
         ≡ elements_of (supported_part scope (as_elements keys.now))) }
+    ensures optional { IfOk result (λ struck. struck.1
+        ≡ has_unsupported scope (as_elements keys.now)) }
 {
     let mut kept = Vec::new(alloc);
+    let mut optional = false;
     for key in keys {
-        if scope.supports(key.tag) {
-            let value = supported_value(alloc, scope.below(key.tag), &key.value)?;
-            kept.push(Element {
-                tag: key.tag,
-                vr: key.vr,
-                value,
-            })?;
+        if !scope.supports(key.tag) {
+            optional = true;
+            continue;
         }
+        let (value, inside) = supported_value(alloc, scope.below(key.tag), &key.value)?;
+        optional = optional || inside;
+        kept.push(Element {
+            tag: key.tag,
+            vr: key.vr,
+            value,
+        })?;
     }
-    Ok(kept)
+    Ok((kept, optional))
 }
 
 #[cycle(supported)]
-fn supported_value(alloc: Global, scope: KeyScope, value: &Value) -> Result<Value, AllocError>
-    ensures { IfOk result (λ kept. kept ≡ supported_value scope value.now) }
+fn supported_value(
+    alloc: Global,
+    scope: KeyScope,
+    value: &Value,
+) -> Result<(Value, bool), AllocError>
+    ensures part { IfOk result (λ struck. struck.0 ≡ supported_value scope value.now) }
+    ensures optional { IfOk result (λ struck. struck.1 ≡ value_has_unsupported scope value.now) }
 {
     match value {
         Value::Octets(octets) => {
             let octets = Listed::copy_of(alloc, octets.as_slice())?;
-            Ok(Value::Octets(octets))
+            Ok((Value::Octets(octets), false))
         }
         Value::Items(items) => {
-            let items = supported_items(alloc, scope, items.as_slice())?;
-            Ok(Value::Items(Listed::from_inner(items)))
+            let (items, optional) = supported_items(alloc, scope, items.as_slice())?;
+            Ok((Value::Items(Listed::from_inner(items)), optional))
         }
     }
 }
@@ -248,56 +265,20 @@ fn supported_items(
     alloc: Global,
     scope: KeyScope,
     items: &[DataSet],
-) -> Result<Vec<DataSet>, AllocError>
-    ensures { IfOk result (λ kept. kept.items
+) -> Result<(Vec<DataSet>, bool), AllocError>
+    ensures part { IfOk result (λ struck. struck.0.items
         ≡ list_of (supported_items scope (items_of items.now))) }
+    ensures optional { IfOk result (λ struck. struck.1
+        ≡ have_unsupported scope (items_of items.now)) }
 {
     let mut kept = Vec::new(alloc);
+    let mut optional = false;
     for item in items {
-        kept.push(supported_part(alloc, scope, item)?)?;
+        let (part, inside) = supported_part(alloc, scope, item)?;
+        optional = optional || inside;
+        kept.push(part)?;
     }
-    Ok(kept)
-}
-
-#[cycle(unsupported)]
-fn has_unsupported(scope: KeyScope, keys: &DataSet) -> bool
-    ensures { result ≡ has_unsupported scope keys.now }
-{
-    some_unsupported(scope, keys.elements())
-}
-
-#[cycle(unsupported)]
-fn some_unsupported(scope: KeyScope, keys: &[Element]) -> bool
-    ensures { result ≡ has_unsupported scope (as_elements keys.now) }
-{
-    for key in keys {
-        if !scope.supports(key.tag) || value_has_unsupported(scope.below(key.tag), &key.value) {
-            return true;
-        }
-    }
-    false
-}
-
-#[cycle(unsupported)]
-fn value_has_unsupported(scope: KeyScope, value: &Value) -> bool
-    ensures { result ≡ value_has_unsupported scope value.now }
-{
-    match value {
-        Value::Octets(_) => false,
-        Value::Items(items) => have_unsupported(scope, items.as_slice()),
-    }
-}
-
-#[cycle(unsupported)]
-fn have_unsupported(scope: KeyScope, items: &[DataSet]) -> bool
-    ensures { result ≡ have_unsupported scope (items_of items.now) }
-{
-    for item in items {
-        if has_unsupported(scope, item) {
-            return true;
-        }
-    }
-    false
+    Ok((kept, optional))
 }
 
 /// The identifier without the elements that the list does not support, inside items too, and
@@ -314,7 +295,6 @@ pub fn strike(
         (λ struck. struck.1 ≡ has_unsupported (Identifier list) identifier.now) }
     ensures known { IfOk result (λ struck. HasKnownTags struck.0) }
 {
-    let scope = KeyScope::Identifier(list);
-    let part = supported_part(alloc, scope, identifier)?;
-    Ok((part, has_unsupported(scope, identifier)))
+    let struck = supported_part(alloc, KeyScope::Identifier(list), identifier)?;
+    Ok(struck)
 }

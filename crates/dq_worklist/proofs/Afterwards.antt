@@ -49,17 +49,10 @@ unfolding schedule_outcome
 refused_schedules_nothing limits records octets number edits e =
     outcome_refused (first_refusal (refusals limits records octets (reading Explicit octets))) (read_order (reading Explicit octets)) number edits e
 
-abbrev kept_or : Bool → List Edit → ℕ → Option ℕ × List Edit
-kept_or b kept n = if b then (None, kept) else (Some n, [])
-
-withdrawn_by : (b : Bool) (kept : List Edit) (n number : ℕ) (edits : List Edit) → kept_or b kept n ≡ (Some number, edits) → edits ≡ []
-withdrawn_by true kept n number edits e = (let no : None ≡ Some number = ap (λ (x : Option ℕ × List Edit). x.0) e in cc)
-withdrawn_by false kept n number edits e = sym (ap (λ (x : Option ℕ × List Edit). x.1) e)
-
 pub refused_withdraws_nothing : (records : List Record) (id : List ℕ) (number : ℕ) (edits : List Edit)
     → withdrawn records id ≡ (Some number, edits) → edits ≡ []
 unfolding withdrawn
-refused_withdraws_nothing records id number edits e = withdrawn_by (has_entry records id) (Remove Entry id ∷ []) 5 number edits e
+refused_withdraws_nothing records id number edits e = grind arith
 
 outcome_accepted : (r : Option Refusal) (o : Option Order) (order : Order) (edits : List Edit) → o ≡ Some order
     → refusal_or_entry r o ≡ (None, edits) → edits ≡ Put (entry_of order) ∷ []
@@ -74,9 +67,9 @@ unfolding schedule_outcome
 accepted_is_put limits records octets edits order e same =
     outcome_accepted (first_refusal (refusals limits records octets (reading Explicit octets))) (read_order (reading Explicit octets)) order edits same e
 
-withdrawn_is : (b : Bool) (kept : List Edit) (n : ℕ) (edits : List Edit) → kept_or b kept n ≡ (None, edits) → edits ≡ kept
-withdrawn_is true kept n edits e = sym (ap (λ (x : Option ℕ × List Edit). x.1) e)
-withdrawn_is false kept n edits e = (let no : Some n ≡ None = ap (λ (x : Option ℕ × List Edit). x.0) e in cc)
+withdrawn_is : (records : List Record) (id : List ℕ) (edits : List Edit) → withdrawn records id ≡ (None, edits) → edits ≡ Remove Entry id ∷ []
+unfolding withdrawn
+withdrawn_is records id edits e = grind arith
 
 -- ---- where a record is put, and where one is removed
 
@@ -106,14 +99,9 @@ none_elsewhere p test apart (r ∷ rs) =
     elsewhere_step p test apart r (filter (λ (r : Record). test (place_order (record_place r) p)) rs) (place_order (record_place r) p) refl
     (none_elsewhere p test apart rs) (test (place_order (record_place r) p)) refl
 
-passed : {X : Type 0} (t : X → Bool) (x : X) (xs ys : List X) (b : Bool) → t x ≡ b → (find t xs ≡ None → find t (xs ++ ys) ≡ find t ys)
-    → (if b then Some x else find t xs) ≡ None → (if b then Some x else find t (xs ++ ys)) ≡ find t ys
-passed t x xs ys true e rest none = cc
-passed t x xs ys false e rest none = rest none
-
 none_before : {X : Type 0} (t : X → Bool) (xs ys : List X) → find t xs ≡ None → find t (xs ++ ys) ≡ find t ys
 none_before t [] ys none = refl
-none_before t (x ∷ xs) ys none = passed t x xs ys (t x) refl (none_before t xs ys) none
+none_before t (x ∷ xs) ys none = grind (arith, none_before t xs ys)
 
 pub withdrawn_is_free : (records : List Record) (id : List ℕ) (edits : List Edit) → withdrawn records id ≡ (None, edits)
     → has_entry (records_after_edits edits records) id ≡ false
@@ -123,16 +111,11 @@ withdrawn_is_free records id edits e =
     let gone : has_entry (edited_by (Remove Entry id) records) id ≡ false =
     ap is_some (none_before (stands_at p) (records_before p records ++ []) (records_past p records)
     (none_before (stands_at p) (records_before p records) [] (none_elsewhere p is_lt refl records)) ∙ none_elsewhere p is_gt refl records) in
-    ap (λ (es : List Edit). has_entry (records_after_edits es records) id) (withdrawn_is (has_entry records id) (Remove Entry id ∷ []) 5 edits e) ∙ gone
-
-found_step : {X : Type 0} (t : X → Bool) (x : X) (xs ys : List X) (b : Bool) → is_some (find t (xs ++ ys)) ≡ true
-    → is_some (if b then Some x else find t (xs ++ ys)) ≡ true
-found_step t x xs ys true rest = refl
-found_step t x xs ys false rest = rest
+    ap (λ (es : List Edit). has_entry (records_after_edits es records) id) (withdrawn_is records id edits e) ∙ gone
 
 found_between : {X : Type 0} (t : X → Bool) (xs : List X) (y : X) (ys : List X) → t y ≡ true → is_some (find t ((xs ++ (y ∷ [])) ++ ys)) ≡ true
 found_between t [] y ys here = rw here refl
-found_between t (x ∷ xs) y ys here = found_step t x (xs ++ (y ∷ [])) ys (t x) (found_between t xs y ys here)
+found_between t (x ∷ xs) y ys here = grind (arith, found_between t xs y ys here)
 
 put_there : (order : Order) (records : List Record) → has_entry (edited_by (Put (entry_of order)) records) order.id ≡ true
 unfolding edited_by record_at
@@ -189,17 +172,11 @@ order_read (Err fault) order e = cc
 not_past : (a : ℕ) → nat_lt 0x100000 a ≡ false → a < 2 ^ 31
 not_past a e = grind (arith, nat_tests)
 
-refused_or_not : {A : Type 0} (n : ℕ) (edits : List Edit) → ◌≡◌ {A = Option ℕ × List Edit} (Some n, []) (None, edits) → A
-refused_or_not n edits e = absurd (some_or_none n (ap (λ (x : Option ℕ × List Edit). x.0) e))
-  where
-    some_or_none : (n : ℕ) → Some n ≡ None → ⊥
-    some_or_none n h = cc
-
 within_by : (limits : Limits) (records : List Record) (octets : List ℕ) (edits : List Edit) (long : Bool) → nat_lt order_limit (length octets) ≡ long
     → schedule_outcome limits records octets ≡ (None, edits) → length octets < 2 ^ 31
 within_by limits records octets edits true is e =
     let refused : schedule_outcome limits records octets ≡ (Some 1, []) = malformed limits records octets (rw is refl) in
-    refused_or_not 1 edits (sym refused ∙ e)
+    absurd (grind arith)
 within_by limits records octets edits false is e = not_past (length octets) is
 
 pub scheduled_is_short : (limits : Limits) (records : List Record) (octets : List ℕ) (edits : List Edit) → schedule_outcome limits records octets ≡ (None, edits)

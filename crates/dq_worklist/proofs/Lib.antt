@@ -1,8 +1,6 @@
-mod InParts
 mod Afterwards
 mod LookedUp
 mod Matching
-mod MetFirst
 mod Orders
 mod Queries
 mod Records

@@ -1,12 +1,10 @@
 -- Where a query asks for one step's id, no entry with another id matches, and the entry that is
 -- looked up gives the answers of all. Else those give them that wait.
-use Rattle.std.proofs.Common.{◌≡◌, ◌≢◌, ℕ, Bool, true, false, not, ◌&&◌, List, [], ◌∷◌, map, find, filter, Option, Some, None, option_map, Result, Ok, Err, inl, inr, refl, sym, ap, ◌∙◌, cond, if◌then◌else◌}
-use Rattle.std.specs.List.{filter_map, cons_option}
+use Rattle.std.proofs.Common.{◌≡◌, ◌≢◌, ℕ, Bool, true, false, not, List, [], ◌∷◌, map, filter, Option, Some, None, option_map, Result, Ok, Err, refl, sym, ap, ◌∙◌, arith, if◌then◌else◌}
+use Rattle.std.specs.List.{filter_map}
 use Rattle.std.specs.Option.{option_to_list}
 use Rattle.std.specs.Str.{bytes_eq}
-use Rattle.std.specs.declared.cmp.Ordering.TheVariants.{Less}
 use Rattle.std.proofs.lemmas.Bool.{and_parts}
-use Rattle.std.proofs.lemmas.Cmp.{nat_list_cmp_total, tied_itself}
 use Rattle.std.proofs.lemmas.Slice.Eq.{bytes_eq-Decides}
 use Rattle.dq_list.specs.Among.{IsAmong}
 use Rattle.dq_vr.specs.Tags.{scheduled_procedure_step_sequence, scheduled_procedure_step_id}
@@ -15,7 +13,6 @@ use Rattle.dq_dataset.specs.declared.header.Syntax.TheVariants.{Explicit}
 use Rattle.dq_dataset.specs.Tree.{ElementList}
 use Rattle.dq_dataset.specs.Facts.{IsDataSet}
 use Rattle.dq_dataset.specs.Reading.{reading}
-use Rattle.dq_dataset.specs.Canonical.{canonical}
 use Rattle.dq_dataset.specs.Values.{sole_at}
 use Rattle.dq_dataset.proofs.KnownVrs.{read_has_known_inside, facts_give_known_inside}
 use Rattle.dq_match.specs.Matching.{fits}
@@ -26,13 +23,13 @@ use Rattle.dq_match.proofs.Answering.{given_of_each, given_skipped}
 use Rattle.dq_tables.specs.declared.row.Kind.{Kind}
 use Rattle.dq_tables.specs.declared.row.Kind.TheVariants.{Entry}
 use Rattle.dq_tables.specs.declared.row.Row.{Row}
-use Rattle.dq_tables.specs.Rows.{Record, octet_order, record_of, row_of, of}
-use Rattle.dq_tables.specs.Finding.{same_kind, record_at, records_of, waiting_among}
-use Rattle.dq_tables.specs.Records.{AreInOrder, data_set_of}
+use Rattle.dq_tables.specs.Rows.{Record, record_of, row_of, of}
+use Rattle.dq_tables.specs.Finding.{record_at, records_of, waiting_among}
+use Rattle.dq_tables.specs.Records.{data_set_of}
 use Rattle.dq_tables.specs.Keys.{is_id, sole_item_at, id_of, id_in, entry_id}
-use Rattle.dq_tables.specs.Sound.{IsSound, is_own_row, is_record_of, may_be_started, has_key, has_above, is_within_limits}
+use Rattle.dq_tables.specs.Sound.{IsSound, is_own_row, is_record_of, may_be_started, has_key}
 use Rattle.dq_tables.proofs.Listing.{of_kind_from, listed_in_order}
-use Rattle.dq_tables.proofs.Rising.{each_among}
+use Rattle.dq_archive.proofs.Named.{only_named}
 use Rattle.dq_archive.proofs.OwnRecords.{of_each, passed, value_from}
 use Rattle.dq_worklist.specs.Candidates.{id_asked_in, id_asked, entries_with, entry_candidates, entry_answer}
 use Rattle.dq_worklist.specs.Queries.{answers_of_entries}
@@ -66,11 +63,7 @@ own_by : (read : Result ElementList ReadFault) (row : Row) → reading Explicit 
     → HasOwnId (record_of row)
 unfolding data_set_of
 own_by (Err fault) row is own = absurd cc
-own_by (Ok d) row is own =
-    let keys = (and_parts (bytes_eq (canonical Explicit d) row.octets)
-    (has_key row.kind row.key d && (has_above row.kind row.above d && is_within_limits row.kind row.octets)) own).1 in
-    let key = (and_parts (has_key row.kind row.key d) (has_above row.kind row.above d && is_within_limits row.kind row.octets) keys).0 in
-    rw is (read_has_known_inside Explicit row.octets d is, key)
+own_by (Ok d) row is own = grind (arith, and_parts, read_has_known_inside)
 
 row_own : (row : Row) → is_own_row row ≡ true → HasOwnId (record_of row)
 unfolding is_own_row
@@ -90,44 +83,6 @@ none_by : (keys d : ElementList) (b : Bool) → fits keys d ≡ b → (fits keys
 none_by keys d true is other = absurd (other is)
 none_by keys d false is other = refl
 
-module _ (Given : Type 0) (f : Record → Option Given) (id : List ℕ) where
-  abbrev has_id : Record → Bool
-  has_id r = same_kind r.kind Entry && bytes_eq r.key id
-
-  nothing : (xs : List Record) → ((r : Record) → IsAmong r xs → f r ≡ None) → filter_map f xs ≡ []
-  nothing [] none = refl
-  nothing (x ∷ xs) none = ap (λ (o : Option Given). cons_option o (filter_map f xs)) (none x (inl refl)) ∙ nothing xs (λ r h. none r (inr h))
-
-  one_step : (x : Record) (xs : List Record) (kind named : Bool) → same_kind x.kind Entry ≡ kind → bytes_eq x.key id ≡ named
-      → AreInOrder (if kind then x ∷ filter (λ (r : Record). same_kind r.kind Entry) xs else filter (λ (r : Record). same_kind r.kind Entry) xs)
-      → ((r : Record) → IsAmong r (if kind then x ∷ filter (λ (s : Record). same_kind s.kind Entry) xs else filter (λ (s : Record). same_kind s.kind Entry) xs)
-      → r.key ≢ id → f r ≡ None)
-      → (AreInOrder (filter (λ (r : Record). same_kind r.kind Entry) xs)
-      → ((r : Record) → IsAmong r (filter (λ (s : Record). same_kind s.kind Entry) xs) → r.key ≢ id → f r ≡ None)
-      → filter_map f (option_to_list (find has_id xs)) ≡ filter_map f (filter (λ (r : Record). same_kind r.kind Entry) xs))
-      → filter_map f (option_to_list (cond (kind && named) (Some x) (find has_id xs)))
-      ≡ filter_map f (if kind then x ∷ filter (λ (r : Record). same_kind r.kind Entry) xs else filter (λ (r : Record). same_kind r.kind Entry) xs)
-  one_step x xs false named is_kind is_named ordered none rest = rest ordered none
-  one_step x xs true false is_kind is_named ordered none rest =
-      let entries = filter (λ (r : Record). same_kind r.kind Entry) xs in
-      let other : x.key ≢ id = λ e. cc (sym is_named ∙ (bytes_eq-Decides x.key id).1 e) in
-      rest ordered.1 (λ r h. none r (inr h)) ∙ ap (λ (o : Option Given). cons_option o (filter_map f entries)) (sym (none x (inl refl) other))
-  one_step x xs true true is_kind is_named ordered none rest =
-      let entries = filter (λ (r : Record). same_kind r.kind Entry) xs in
-      let same : x.key ≡ id = (bytes_eq-Decides x.key id).0 is_named in
-      ap (cons_option (f x)) (sym (nothing entries (λ r h. none r (inr h) (λ e.
-      let less = each_among (λ (s : Record). octet_order x.key s.key ≡ Less) r entries ordered.0 h in
-      let itself = ap (octet_order x.key) (e ∙ sym same) ∙ tied_itself nat_list_cmp_total x.key in
-      cc (sym less ∙ itself)))))
-
-  one_gives_all : (records : List Record) → AreInOrder (records_of Entry records)
-      → ((r : Record) → IsAmong r (records_of Entry records) → r.key ≢ id → f r ≡ None)
-      → filter_map f (option_to_list (record_at Entry id records)) ≡ filter_map f (records_of Entry records)
-  unfolding records_of record_at
-  one_gives_all [] ordered none = refl
-  one_gives_all (x ∷ xs) ordered none =
-      one_step x xs (same_kind x.kind Entry) (bytes_eq x.key id) refl refl ordered none (one_gives_all xs)
-
 -- ---- the rows of those that are looked at
 
 pub all_candidates : (institution : List ℕ) (records : List Record) (keys : ElementList) → None ≡ id_asked keys
@@ -146,28 +101,11 @@ one_candidate institution records keys id row listed asked found is =
     ∙ ap (λ (o : Option (List ℕ)). map (row_of institution) (entries_with records o)) asked
 
 -- what those give that wait
-waiting_step : (keys : ElementList) (r : Record) (left entries : List Record) (b : Bool) → r.started ≡ b
-    → filter_map (λ (s : Record). answer_to_keys keys (data_set_of s.octets)) left ≡ filter_map (entry_answer keys) entries
-    → filter_map (λ (s : Record). answer_to_keys keys (data_set_of s.octets)) (if not b then r ∷ left else left)
-    ≡ cons_option (if b then None else answer_to_keys keys (data_set_of r.octets)) (filter_map (entry_answer keys) entries)
-waiting_step keys r left entries true is rest = rest
-waiting_step keys r left entries false is rest = ap (cons_option (answer_to_keys keys (data_set_of r.octets))) rest
-
 waiting_give : (keys : ElementList) (entries : List Record)
     → filter_map (λ (r : Record). answer_to_keys keys (data_set_of r.octets)) (filter (λ (r : Record). not r.started) entries)
     ≡ filter_map (entry_answer keys) entries
 waiting_give keys [] = refl
-waiting_give keys (r ∷ entries) =
-    waiting_step keys r (filter (λ (s : Record). not s.started) entries) entries r.started refl (waiting_give keys entries)
-
-none_of : (keys : ElementList) (r : Record) (b : Bool) → answer_to_keys keys (data_set_of r.octets) ≡ None
-    → (if b then None else answer_to_keys keys (data_set_of r.octets)) ≡ None
-none_of keys r true none = refl
-none_of keys r false none = none
-
-started_gives : (keys : ElementList) (r : Record) (b : Bool) → not b ≡ false → (if b then None else answer_to_keys keys (data_set_of r.octets)) ≡ None
-started_gives keys r true is = refl
-started_gives keys r false is = absurd cc
+waiting_give keys (r ∷ entries) = grind (arith, waiting_give keys entries)
 
 module _ (each_alone : EachAlone) (items_met : ItemsMet) (institution : List ℕ) (rows : List Row) (keys : ElementList)
     (sound : IsSound rows) (facts : IsDataSet keys) where
@@ -187,22 +125,20 @@ module _ (each_alone : EachAlone) (items_met : ItemsMet) (institution : List ℕ
 
   -- those that are started give none
   by_waiting : filter_map (entry_answer keys) (waiting_among (of institution rows)) ≡ filter_map (entry_answer keys) (records_of Entry (of institution rows))
-  by_waiting = given_skipped (entry_answer keys) (λ (r : Record). not r.started) (records_of Entry (of institution rows)) (λ r h is. started_gives keys r r.started is)
+  by_waiting = given_skipped (entry_answer keys) (λ (r : Record). not r.started) (records_of Entry (of institution rows)) (λ r h is. grind arith)
 
   by_asked : (o : Option (List ℕ)) → id_asked keys ≡ o
       → filter_map (entry_answer keys) (entries_with (of institution rows) o)
       ≡ filter_map (entry_answer keys) (records_of Entry (of institution rows))
   by_asked None is = by_waiting
   by_asked (Some id) is =
-      one_gives_all _ (entry_answer keys) id (of institution rows) (listed_in_order Entry institution rows sound.rising)
-      (λ r h other. none_of keys r r.started (other_gives_none id is r h other))
+      ap (filter_map (entry_answer keys)) (sym (only_named Entry id (of institution rows) (listed_in_order Entry institution rows sound.rising)))
+      ∙ given_skipped (entry_answer keys) (λ (r : Record). bytes_eq r.key id) (records_of Entry (of institution rows))
+      (λ r h other. (let none = other_gives_none id is r h (λ same. cc (sym other ∙ (bytes_eq-Decides r.key id).1 same)) in grind arith))
 
   -- the answers of the entries that are looked at
-  pub answered_of_candidates : (listed_rows : List Row) (found : List ElementList)
-      → listed_rows ≡ map (row_of institution) (entry_candidates (of institution rows) keys) → found ≡ row_answers keys listed_rows
-      → found ≡ answers_of_entries (of institution rows) keys
+  pub answered_of_candidates : row_answers keys (map (row_of institution) (entry_candidates (of institution rows) keys)) ≡ answers_of_entries (of institution rows) keys
   unfolding answers_of_entries
-  answered_of_candidates listed_rows found is_listed is_found =
-      is_found ∙ ap (row_answers keys) is_listed
-      ∙ given_of_each (λ (row : Row). entry_answer keys (record_of row)) (row_of institution) (entry_candidates (of institution rows) keys)
+  answered_of_candidates =
+      given_of_each (λ (row : Row). entry_answer keys (record_of row)) (row_of institution) (entry_candidates (of institution rows) keys)
       ∙ by_asked (id_asked keys) refl ∙ sym (waiting_give keys (records_of Entry (of institution rows)))

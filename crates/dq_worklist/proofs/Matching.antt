@@ -1,5 +1,6 @@
 -- The answers to keys are what they are shown of the entries that match, in order.
 use Rattle.std.proofs.Common.{◌≡◌, ◌≢◌, ℕ, Bool, true, false, not, List, map, filter, Result, Ok, Err, refl, sym, ap, ◌∙◌, subst, arith, if◌then◌else◌}
+use Rattle.std.proofs.lemmas.Bool.{not-true}
 use Rattle.dq_list.specs.Among.{IsAmong}
 use Rattle.dq_list.proofs.Among.{among_filter, filtered_from}
 use Rattle.dq_dataset.specs.declared.header.Syntax.{Syntax}
@@ -29,10 +30,6 @@ use Rattle.dq_worklist.specs.Answers.{MatchesKeys, AreEntryAnswers}
 use Rattle.dq_worklist.specs.Queries.{worklist_identifier_query, worklist_query, answers_of_entries, listed_by, worklist_outcome}
 use Rattle.dq_worklist.proofs.Queries.{listed_answers}
 
-is_not : (b : Bool) → not b ≡ true → b ≡ false
-is_not true e = absurd cc
-is_not false e = refl
-
 module _ (records : List Record) (keys : ElementList) where
   abbrev is_fit : Record → Bool
   is_fit r = fits keys (data_set_of r.octets)
@@ -48,7 +45,7 @@ module _ (records : List Record) (keys : ElementList) where
       let kept = filtered_from is_fit r (waiting_among records) h in
       let left = filtered_from waits r (records_of Entry records) kept.0 in
       let entry = of_kind_from Entry r records left.0 in
-      record { kept = entry.0; kind = entry.1; waiting = is_not r.started left.1; fit = kept.1 }
+      record { kept = entry.0; kind = entry.1; waiting = not-true r.started left.1; fit = kept.1 }
 
   waiting_to : (r : Record) → MatchesKeys records keys r → IsAmong r (waiting_among records)
   waiting_to r matches =

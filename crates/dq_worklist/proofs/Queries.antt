@@ -1,5 +1,5 @@
 -- The answers of one row after the other are the answers to a query.
-use Rattle.std.proofs.Common.{◌≡◌, ◌≢◌, ℕ, List, [], Result, Ok, Err, refl, sym, ap}
+use Rattle.std.proofs.Common.{◌≡◌, ◌≢◌, ℕ, List, [], Result, Ok, Err, refl, ap}
 use Rattle.std.specs.List.{filter_map}
 use Rattle.dq_dataset.specs.declared.header.Syntax.{Syntax}
 use Rattle.dq_dataset.specs.Tree.{ElementList}
@@ -19,11 +19,6 @@ pub same_by_keys : (records : List Record) (message : Message) (syntax : Syntax)
     → worklist_outcome records message syntax ≡ keys_outcome records identifier
 unfolding worklist_outcome worklist_query keys_outcome
 same_by_keys records message syntax identifier is = ap (λ (read : Result ElementList ℕ). listed_by records (worklist_identifier_query read)) is
-
-pub outcome_of : (records : List Record) (message : Message) (syntax : Syntax) (asked : Result Query ℕ) → asked ≡ worklist_query message syntax
-    → worklist_outcome records message syntax ≡ listed_by records asked
-unfolding worklist_outcome
-outcome_of records message syntax asked is = ap (listed_by records) (sym is)
 
 pub listed_answers : (records : List Record) (message : Message) (syntax : Syntax) (query : Query) → worklist_query message syntax ≡ Ok query
     → (worklist_outcome records message syntax).answers ≡ answers_of_entries records query.keys

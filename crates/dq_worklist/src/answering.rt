@@ -1,29 +1,30 @@
 //! The answers to a worklist query (PS3.4 section K.4.1.3).
-ghost use Rattle.std.specs.Prelude.{◌≡◌, false, List, [], map, take, drop, IfOk};
+ghost use Rattle.std.specs.Prelude.{◌≡◌, false, List, [], map, IfOk};
 ghost use Rattle.std.specs.Option.{option_copied, option_to_list};
 ghost use Rattle.std.specs.List.{filter_map};
 ghost use Rattle.dq_dimse.specs.Holding.{plain_message};
 ghost use Rattle.dq_match.specs.Answers.{found_part};
+ghost use Rattle.dq_match.specs.Parts.{part_of, found_of};
 ghost use Rattle.dq_match.specs.Identifiers.{HasKnownTags};
 ghost use Rattle.dq_match.specs.Matching.{fits};
 ghost use Rattle.dq_tables.specs.Records.{data_set_of};
 ghost use Rattle.dq_tables.specs.declared.row.Row.{Row as TheRow};
 ghost use Rattle.dq_tables.specs.Keeping.{Reads};
 ghost use Rattle.dq_tables.specs.Rows.{Record, of, record_of, row_of};
-ghost use Rattle.dq_archive.specs.Archives.{Looks, Decides};
+ghost use Rattle.dq_archive.specs.Archives.{Looks};
 ghost use Rattle.dq_worklist.specs.Candidates.{id_asked, entry_candidates, entry_answer};
 ghost use Rattle.dq_tables.specs.Serving.{Serves};
 ghost use Rattle.dq_worklist.specs.Queries.{listed_by, worklist_outcome, keys_outcome};
 
 use crate::asking::{Query, query_at, query_of};
-use dq_archive::{Archive, Decision};
+use dq_archive::Archive;
 use dq_config::Institution;
 use dq_dataset::{DataSet, Syntax};
 use dq_dimse::Message;
 use dq_dimse::status::SUCCESS;
 use dq_list::Listed;
 use dq_match::laws::keys_are_met_alone_and_as_a_period;
-use dq_match::{Found, PreparedKeys, is_plain, shown};
+use dq_match::{Found, Part, PreparedKeys, is_plain, shown};
 use dq_tables::laws::honest_rows_are_sound;
 use dq_tables::{Kind, Row, TableFault, Tables, sole_item_at};
 use dq_vr::{Tag, tags};
@@ -107,59 +108,36 @@ fn answer_of(
     Ok(Some(shown(alloc, keys, &held)?))
 }
 
-/// The answers that rows give to the keys.
-fn answers_of(alloc: Global, keys: &DataSet, rows: &[Row]) -> Result<Listed<DataSet>, AllocError>
-    requires { HasKnownTags keys.now }
-    ensures { IfOk result (λ answers. answers ≡ filter_map
-        (λ (row : TheRow). entry_answer keys.now (record_of row)) rows.now) }
-{
-    let prepared = PreparedKeys::of(alloc, keys)?;
-    let mut answers = Listed::empty(alloc);
-    for row in rows {
-        let answer = answer_of(alloc, keys, &prepared, row)?;
-        if let Some(answer) = answer {
-            answers.push(answer)?;
-        }
-    }
-    Ok(answers)
-}
-
-/// Those answers from a place on, at most so many. No row is looked at behind the last of them.
-#[tactic(auto, using(crate::proofs::InParts::in_parts))]
-fn answers_from(
+/// The answers that rows give to the keys, from a place on, at most so many where there is a most. No
+/// row is looked at behind the last of them.
+fn answers_of(
     alloc: Global,
     keys: &DataSet,
     rows: &[Row],
     from: usize,
-    most: usize,
+    most: Option<usize>,
 ) -> Result<Listed<DataSet>, AllocError>
     requires { HasKnownTags keys.now }
-    ensures { IfOk result (λ answers. answers ≡ take most (drop from (filter_map
-        (λ (row : TheRow). entry_answer keys.now (record_of row)) rows.now))) }
+    ensures { IfOk result (λ answers. answers ≡ part_of from most (filter_map
+        (λ (row : TheRow). entry_answer keys.now (record_of row)) rows.now)) }
 {
     let prepared = PreparedKeys::of(alloc, keys)?;
-    let mut before = from;
-    let mut answers = Listed::empty(alloc);
+    let mut part = Part::new(alloc, from, most);
     for row in rows {
-        if answers.len() >= most {
-            return Ok(answers);
+        if part.is_full() {
+            return Ok(part.into_answers());
         }
         let answer = answer_of(alloc, keys, &prepared, row)?;
-        if let Some(answer) = answer {
-            if before == 0 {
-                answers.push(answer)?;
-            } else {
-                before -= 1;
-            }
-        }
+        part.take(answer)?;
     }
-    Ok(answers)
+    Ok(part.into_answers())
 }
 
 /// Answers a worklist C-FIND from the entries of an institution that wait: those that fit, in order
 /// of the octets of their key, each with what the keys ask for. It is refused with status A700 where
 /// the identifier is too long, C000 where it is unreadable, and A900 where it has values that are
 /// not well formed (PS3.4 section K.4.1.1.4).
+#[tactic(auto, using(dq_tables::proofs::Calling::serves_read), unfolding(crate::specs::Queries::worklist_outcome))]
 pub fn query<T: Tables>(
     tables: &mut T,
     institution: &Institution,
@@ -170,8 +148,9 @@ pub fn query<T: Tables>(
         (λ (records : List Record). (worklist_outcome records (plain_message message.now) syntax, [])) result }
 {
     let mut archive = Archive::new(tables, institution);
-    let decision = decide_answers(&mut archive, message, syntax)?;
-    archive.carry_out(decision)
+    let asked = query_of(archive.alloc, message, syntax)?;
+    let found = answers_to(&mut archive, asked, 0, None)?;
+    Ok(found)
 }
 
 /// Answers keys that no message brought, as `query` answers the identifier of a message: the answers
@@ -190,58 +169,20 @@ pub fn query_by_keys<T: Tables>(
 {
     let mut kept = Archive::new(tables, institution);
     let asked = query_at(kept.alloc, identifier)?;
-    part_of_answers(&mut kept, asked, from, most)
+    answers_to(&mut kept, asked, from, Some(most))
 }
 
-/// The answers to a query from a place on, at most so many, or the status that refuses it.
-fn part_of_answers<T: Tables>(
-    archive: &mut Archive<'_, T>,
-    asked: Result<Query, u16>,
-    from: usize,
-    most: usize,
-) -> Result<Found, TableFault>
-    requires { IfOk asked (λ query. HasKnownTags query.keys) }
-    ensures { Looks T.state archive.old archive.new (λ (records : List Record).
-        found_part from most (listed_by records asked)) result }
-{
-    let query = match asked {
-        Ok(query) => query,
-        Err(status) => return Ok(Found::refused(archive.alloc, status)),
-    };
-    query.keys.has_facts();
-    honest_rows_are_sound::<T>();
-    keys_are_met_alone_and_as_a_period();
-    let rows = candidates(archive, &query.keys)?;
-    let answers = answers_from(archive.alloc, &query.keys, rows.as_slice(), from, most)?;
-    Ok(Found {
-        status: SUCCESS,
-        optional: query.optional,
-        answers,
-    })
-}
-
-/// The answers to a worklist C-FIND, which change nothing.
-fn decide_answers<T: Tables>(
-    archive: &mut Archive<'_, T>,
-    message: &Message,
-    syntax: Syntax,
-) -> Result<Decision<Found>, TableFault>
-    ensures { Decides T.state archive.old archive.new (λ (records : List Record).
-        (worklist_outcome records (plain_message message.now) syntax, [])) result }
-{
-    let asked = query_of(archive.alloc, message, syntax)?;
-    let found = answers_to(archive, asked)?;
-    Ok(Decision::unchanged(found))
-}
-
-/// The answers to a query, or the status that refuses it.
+/// The answers to a query from a place on, at most so many where there is a most, or the status that
+/// refuses it.
 fn answers_to<T: Tables>(
     archive: &mut Archive<'_, T>,
     asked: Result<Query, u16>,
+    from: usize,
+    most: Option<usize>,
 ) -> Result<Found, TableFault>
     requires { IfOk asked (λ query. HasKnownTags query.keys) }
     ensures { Looks T.state archive.old archive.new (λ (records : List Record).
-        listed_by records asked) result }
+        found_of from most (listed_by records asked)) result }
 {
     let query = match asked {
         Ok(query) => query,
@@ -251,7 +192,7 @@ fn answers_to<T: Tables>(
     honest_rows_are_sound::<T>();
     keys_are_met_alone_and_as_a_period();
     let rows = candidates(archive, &query.keys)?;
-    let answers = answers_of(archive.alloc, &query.keys, rows.as_slice())?;
+    let answers = answers_of(archive.alloc, &query.keys, rows.as_slice(), from, most)?;
     Ok(Found {
         status: SUCCESS,
         optional: query.optional,

@@ -1,14 +1,13 @@
 use Rattle.std.proofs.Common.{◌≡◌, ◌∙◌, false, None, sym, ap}
 use Rattle.std.specs.List.{list_all}
 use Rattle.dq_dataset.specs.View.{elements_of}
+use Rattle.dq_match.specs.AsLent.{is_met_at_once}
 use Rattle.dq_match.specs.declared.keys.Place.TheVariants.{Outer}
 use Rattle.dq_tables.specs.Records.{data_set_of}
 use Rattle.dq_archive.specs.Archives.{records_in}
 use Rattle.dq_archive.proofs.Looking.{looks_nothing}
 use Rattle.dq_find.specs.Queries.{answer_if}
-use Rattle.dq_find.specs.Kept.{is_key_met}
-use Rattle.dq_find.proofs.Answering.{answered_alike}
-use Rattle.dq_find.proofs.MetFirst.{not_met}
+use Rattle.dq_find.proofs.Answering.{met_later, answered_alike, not_met}
 use Rattle.dq_find.proofs.finding.Search.answer_of.Goals as goal
 
 pub returns-then-not-asks_computed : goal.returns-then-not-asks_computed
@@ -21,24 +20,14 @@ returns-then-not-asks_computed g c =
     ∙ answered_alike (records_in g.T.Tables.state it) c.args.self.now.called.now row.key query (data_set_of row.octets)
     (sym c.asks_computed.ensures ∙ c.if-not-asks_computed.true))
 
-pub returns-then-not-may_fit : goal.returns-then-not-may_fit
-returns-then-not-may_fit g c =
-    let it = c.args.archive.now in
-    let query = c.args.self.now.query.now in
-    let row = c.args.row.now in
-    looks_nothing g.T.Tables.state it _ None
-    (sym (not_met (records_in g.T.Tables.state it) c.args.self.now.called.now row.key query (data_set_of row.octets)
-    (λ one fit. ((c.keys_are_met_alone_and_as_a_period.ensures.each Outer query.keys one).0 fit).0)
-    (c.may_fit.ensures c.if-not-may_fit.true)))
-
 pub returns-then-not-meets_at_once : goal.returns-then-not-meets_at_once
 returns-then-not-meets_at_once g c =
     let it = c.args.archive.now in
     let query = c.args.self.now.query.now in
     let row = c.args.row.now in
-    let unmet : list_all (is_key_met (data_set_of row.octets)) (elements_of query.keys) ≡ false =
-    (λ i. list_all (is_key_met (sym c.in_ok-held.ensures.data_set i)) (elements_of (sym c.requires.prepared i)))
+    let unmet : list_all (is_met_at_once met_later (data_set_of row.octets)) (elements_of query.keys) ≡ false =
+    (λ i. list_all (is_met_at_once met_later (sym c.in_ok-held.ensures.data_set i)) (elements_of (sym c.requires.prepared i)))
     ∙ sym c.meets_at_once.ensures ∙ c.if-not-meets_at_once.true in
     looks_nothing g.T.Tables.state it _ None
     (sym (not_met (records_in g.T.Tables.state it) c.args.self.now.called.now row.key query (data_set_of row.octets)
-    (λ one fit. ((c.keys_are_met_alone_and_as_a_period.ensures.each Outer query.keys one).0 fit).0) unmet))
+    (λ held fit. ((c.keys_are_met_alone_and_as_a_period.ensures.each Outer query.keys held).0 fit).0) unmet))
