@@ -23,7 +23,7 @@ const A_ABORT: u8 = 0x07;
 /// A PDU's type, a reserved octet and the length of its body (PS3.8 section 9.3.1).
 const HEADER: usize = 6;
 
-/// Where the PDUs begin that are written, however their octets are cut (PS3.8 section 9.3.1): the
+/// Where the PDUs begin that are answered, however their octets are cut (PS3.8 section 9.3.1): the
 /// octets of a header that is not whole, how many they are, and how many of a body are to come.
 #[derive(Clone, Copy)]
 struct Headers {
@@ -108,7 +108,8 @@ struct Share {
 
 /// A connection: its socket and its peer's address, what the system may have for it, its share of
 /// the reads, whether octets came and whether some wait to be sent, since when no octet has passed,
-/// how far it is and since when, what was written, and why it was given up, if it was.
+/// how far it is and since when, where the PDUs begin that are answered, how many octets that wait
+/// were looked at for that, and why it was given up, if it was.
 #[derive(Drop)]
 pub(crate) struct Line {
     socket: Socket,
@@ -120,7 +121,8 @@ pub(crate) struct Line {
     silence: Duration,
     stage: Stage,
     waited: Duration,
-    written: Headers,
+    headers: Headers,
+    looked_at: usize,
     reason: Option<Reason>,
 }
 
@@ -145,7 +147,8 @@ impl Line {
             silence: Duration::ZERO,
             stage: Stage::Unasked,
             waited: Duration::ZERO,
-            written: Headers::NONE,
+            headers: Headers::NONE,
+            looked_at: 0,
             reason: None,
         }
     }
@@ -319,14 +322,16 @@ impl Line {
         }
     }
 
-    // How far it is, once these octets are to be written.
+    // How far it is, once these octets are to be written. The first of them may have waited before:
+    // they are not looked at again.
     fn answer(&mut self, octets: &[u8]) {
         if self.stage == Stage::Closing {
             return;
         }
         self.stage = Stage::Open;
-        let mut ahead = self.written;
-        if ahead.pass(octets) {
+        let (_, others) = octets.split_at(self.looked_at.min(octets.len()));
+        self.looked_at = octets.len();
+        if self.headers.pass(others) {
             self.stage = Stage::Closing;
             self.waited = Duration::ZERO;
         }
@@ -344,7 +349,7 @@ impl Line {
             Ok(count) => {
                 self.silence = Duration::ZERO;
                 self.is_sending = count < octets.len();
-                self.written.pass(&octets[..count]);
+                self.looked_at = self.looked_at.saturating_sub(count);
                 Ok(count)
             }
             Err(error) => match error.kind() {
