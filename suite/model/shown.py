@@ -262,7 +262,7 @@ class Shown:
 
     def line(self, line):
         word, *words = line.split() or [""]
-        if not word or word.startswith("#") or re.fullmatch(self.AS_THEY_ARE, line.strip()):
+        if not word or word.startswith(("#", "==")) or re.fullmatch(self.AS_THEY_ARE, line.strip()):
             return [line.strip()]
         if word in ("open", "end") and len(words) == 1 and words[0].isdecimal():
             sent = self.connection(words[0]).sent

@@ -3,7 +3,7 @@ use dq_config::Config;
 use dq_core::{Event, Outcome, Reply, run, well_formed};
 use dq_list::Listed;
 use dq_sql::{SqlTables, StoreFault};
-use dq_tables::Tables;
+use dq_tables::{PlainTables, Tables};
 use sqlite::{Alter, Connection, FileStore, Files, Options};
 use sqlite_disk::{Crash, Disk, Fuse, Memory};
 use std::alloc::{AllocError, Global};
@@ -230,10 +230,45 @@ fn answered<T: Tables + Drop>(alloc: Global, tables: T) -> Result<(usize, T), Fa
     Ok((answered, outcome.tables))
 }
 
-/// How many instances are found in tables.
+/// The replies to searches over rows in a vector, which has the first instances.
+fn replies_of_plain(alloc: Global, instances: usize) -> Result<Listed<Reply>, Fail> {
+    let mut events = stores(alloc)?;
+    events.truncate(BEGUN.saturating_add(instances));
+    let kept = played(alloc, PlainTables::new(alloc), events)?.tables;
+    Ok(played(alloc, kept, searches(alloc)?)?.replies)
+}
+
+/// Whether two replies are the same octets.
+fn are_same(one: &Reply, other: &Reply) -> bool {
+    match (one, other) {
+        (
+            Reply::Octets { octets, close, .. },
+            Reply::Octets {
+                octets: others,
+                close: is_last,
+                ..
+            },
+        ) => octets.as_slice() == others.as_slice() && close == is_last,
+        (Reply::Done, Reply::Done) => true,
+        _ => false,
+    }
+}
+
+/// How many instances are found in tables. The searches are answered as over rows in a vector.
 fn left<T: Tables + Drop>(alloc: Global, tables: T) -> Result<usize, Fail> {
-    let outcome = played(alloc, tables, searches(alloc)?)?;
-    found(outcome.replies.as_slice())
+    let replies = played(alloc, tables, searches(alloc)?)?.replies;
+    let count = found(replies.as_slice())?;
+    let others = replies_of_plain(alloc, count)?;
+    let (replies, others) = (replies.as_slice(), others.as_slice());
+    if replies.len() != others.len() {
+        return Err("rows in a vector are answered less or more".into());
+    }
+    for (reply, other) in replies.iter().zip(others.iter()) {
+        if !are_same(reply, other) {
+            return Err("rows in a vector are answered otherwise".into());
+        }
+    }
+    Ok(count)
 }
 
 /// A file in memory that fails from some call on.

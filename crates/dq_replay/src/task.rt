@@ -1,0 +1,176 @@
+//! What the program does: it replays a history, or reports what is kept after it.
+ghost use Rattle.std.specs.Prelude.{◌≡◌, ◌++◌, [], IsTrue, IfOk, OnOk, string_bytes};
+ghost use Rattle.std.specs.Io.KnownBytes.{Appends};
+ghost use Rattle.dq_core.specs.Histories.{is_well_formed_history};
+ghost use Rattle.dq_core.specs.Shared.{replies, world_after};
+ghost use Rattle.dq_captures.specs.Printing.{reply_lines};
+ghost use Rattle.dq_replay.specs.Reports.{names_of, counts_text, report_line, report_text};
+
+use crate::stop::Stop;
+use dq_captures::{Sink, print_replies};
+use dq_config::{Config, Institution};
+use dq_core::{Event, Outcome, run};
+use dq_list::Listed;
+use dq_tables::{Kind, PlainTables, Tables};
+use std::alloc::{AllocError, Global};
+
+/// What is done with a history.
+#[derive(Clone, Copy, Debug, PartialEq, Eq)]
+pub(crate) enum Task {
+    Replay,
+    Report,
+}
+
+impl Task {
+    fn named(word: &str) -> Option<Task> {
+        match word {
+            "replay" => Some(Task::Replay),
+            "report" => Some(Task::Report),
+            _ => None,
+        }
+    }
+}
+
+/// What the words of the command line ask for: a task, and the path of a configuration.
+#[derive(Clone, Copy, Debug, PartialEq, Eq)]
+pub(crate) struct Request<'a> {
+    pub(crate) task: Task,
+    pub(crate) config: Option<&'a str>,
+}
+
+impl<'a> Request<'a> {
+    /// Returns what the words ask for: `replay` or `report`, with `--config FILE` or `--config=FILE`, or
+    /// nothing, which is a replay.
+    pub(crate) fn of(words: &'a [String]) -> Option<Request<'a>> {
+        let Some((command, options)) = words.split_first() else {
+            return Some(Request {
+                task: Task::Replay,
+                config: None,
+            });
+        };
+        let task = Task::named(command.as_str())?;
+        let config = match options.len() {
+            0 => None,
+            1 => Some(options[0].as_str().strip_prefix("--config=")?),
+            2 if options[0].as_str() == "--config" => Some(options[1].as_str()),
+            _ => return None,
+        };
+        Some(Request { task, config })
+    }
+}
+
+/// Plays a history over rows in memory, of which there are none at first, and prints a line for each
+/// reply. The replies before a fault are printed.
+pub(crate) fn replay<W: Sink>(
+    alloc: Global,
+    config: Config,
+    events: Vec<Event>,
+    output: &mut W,
+) -> Result<(), Stop>
+    requires formed { IsTrue (is_well_formed_history events.items) }
+    ensures replayed { OnOk result (Appends (W.written output.old) (W.written output.new)
+        (reply_lines (replies config [] events.items))) }
+{
+    let outcome = run(alloc, config, PlainTables::new(alloc), events)?;
+    let Outcome {
+        replies,
+        fault,
+        tables: _,
+    } = outcome;
+    if print_replies(replies.as_slice(), output).is_err() || output.finish().is_err() {
+        return Err(Stop::Output);
+    }
+    match fault {
+        None => Ok(()),
+        Some(fault) => Err(Stop::from(fault)),
+    }
+}
+
+/// Returns what is printed of an institution behind its name.
+fn counts_text(alloc: Global, tables: &mut PlainTables, name: &[u8]) -> Result<String, Stop>
+    ensures text { IfOk result (λ text. string_bytes text
+        ≡ counts_text (⟦<PlainTables as Tables>⟧.state tables.old).rows name.now) }
+    ensures rows { OnOk result ((⟦<PlainTables as Tables>⟧.state tables.new).rows
+        ≡ (⟦<PlainTables as Tables>⟧.state tables.old).rows) }
+{
+    let studies = tables.count(Kind::Study, name)?;
+    let series = tables.count(Kind::Series, name)?;
+    let images = tables.count(Kind::Image, name)?;
+    let entries = tables.count(Kind::Entry, name)?;
+    let steps = tables.count(Kind::Step, name)?;
+    Ok(format!(in alloc;
+        " studies {studies} series {series} images {images} entries {entries} steps {steps}\n"
+    )?)
+}
+
+/// Returns the names of institutions, in their order.
+fn names_of(alloc: Global, institutions: &[Institution]) -> Result<Vec<Listed<u8>>, AllocError>
+    ensures { IfOk result (λ names. names.items ≡ names_of institutions.now) }
+{
+    let mut names = Vec::new(alloc);
+    for institution in institutions {
+        names.push(Listed::copy_of(alloc, institution.name.as_slice())?)?;
+    }
+    Ok(names)
+}
+
+/// Adds the line of an institution.
+fn put_line(
+    alloc: Global,
+    text: &mut Vec<u8>,
+    tables: &mut PlainTables,
+    name: &[u8],
+) -> Result<(), Stop>
+    ensures line { OnOk result (text.new.items ≡ text.old.items
+        ++ report_line (⟦<PlainTables as Tables>⟧.state tables.old).rows name.now) }
+    ensures rows { OnOk result ((⟦<PlainTables as Tables>⟧.state tables.new).rows
+        ≡ (⟦<PlainTables as Tables>⟧.state tables.old).rows) }
+{
+    text.extend_from_slice(name)?;
+    text.extend_from_slice(counts_text(alloc, tables, name)?.as_bytes())?;
+    Ok(())
+}
+
+/// Returns the lines of a report.
+fn report_text(
+    alloc: Global,
+    tables: &mut PlainTables,
+    names: &[Listed<u8>],
+) -> Result<Vec<u8>, Stop>
+    ensures { IfOk result (λ text. text.items
+        ≡ report_text (⟦<PlainTables as Tables>⟧.state tables.old).rows names.now) }
+{
+    let mut text = Vec::new(alloc);
+    for name in names {
+        put_line(alloc, &mut text, tables, name.as_slice())?;
+    }
+    Ok(text)
+}
+
+/// Plays a history over rows in memory, of which there are none at first, and prints for each
+/// institution how many rows it has then. Nothing is printed if a fault came.
+pub(crate) fn report<W: Sink>(
+    alloc: Global,
+    config: Config,
+    events: Vec<Event>,
+    output: &mut W,
+) -> Result<(), Stop>
+    requires formed { IsTrue (is_well_formed_history events.items) }
+    ensures reported { OnOk result (Appends (W.written output.old) (W.written output.new)
+        (report_text (world_after config [] events.items).rows (names_of config))) }
+{
+    let names = names_of(alloc, config.institutions())?;
+    let Outcome {
+        replies: _,
+        fault,
+        mut tables,
+    } = run(alloc, config, PlainTables::new(alloc), events)?;
+    if let Some(fault) = fault {
+        return Err(Stop::from(fault));
+    }
+    let text = report_text(alloc, &mut tables, names.as_slice())?;
+    if output.put(text.as_slice()).is_err() || output.finish().is_err() {
+        return Err(Stop::Output);
+    }
+    Ok(())
+}
