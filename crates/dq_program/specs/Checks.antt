@@ -12,7 +12,7 @@ use Rattle.dq_words.specs.Words.{Checking}
 use Rattle.dq_program.specs.declared.stop.Stop.{Stop}
 use Rattle.dq_program.specs.declared.stop.Stop.TheVariants as stop
 use Rattle.dq_program.specs.Program.{IsConfigured, IsRunFault, RefusesChecked}
-use Rattle.dq_program.specs.Reports.{report_line}
+use Rattle.dq_captures.specs.Reports.{report_line}
 
 -- `NAME called TITLE calling TITLE`
 abbrev pub route_line : List ℕ → Route → List ℕ

@@ -16,7 +16,7 @@ use Rattle.dq_captures.specs.Captures.{line_feed, SpellsEvent}
 use Rattle.dq_captures.specs.Printing.{printed_line}
 use Rattle.dq_program.specs.declared.stores.Uncopied.{Uncopied}
 use Rattle.dq_program.specs.Backups.{backup_text}
-use Rattle.dq_program.specs.Reports.{report_text}
+use Rattle.dq_captures.specs.Reports.{report_text}
 use Rattle.dq_program.specs.declared.searching.Subject.{Subject}
 use Rattle.dq_program.specs.Searching.{subject_word, IsToldOf}
 

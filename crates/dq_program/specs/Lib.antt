@@ -10,7 +10,6 @@ pub mod Looping
 pub mod Places
 pub mod Program
 pub mod Replays
-pub mod Reports
 pub mod Rounds
 pub mod Serving
 pub mod Searching

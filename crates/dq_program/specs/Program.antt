@@ -28,7 +28,7 @@ use Rattle.dq_program.specs.declared.stop.Stop.TheVariants as stop
 use Rattle.dq_captures.specs.Captures.{line_feed, lines_of, AreCapture, IsFirstBadLine}
 use Rattle.dq_captures.specs.Printing.{numbered_line, reply_lines}
 use Rattle.dq_program.specs.Places.{IsAtLine}
-use Rattle.dq_program.specs.Reports.{names_of, report_text}
+use Rattle.dq_captures.specs.Reports.{names_of, report_text}
 use Rattle.dq_captures.specs.Surroundings.{AppendsPart, BreaksOff}
 use Rattle.dq_program.specs.declared.stores.Unkept.{Unkept}
 use Rattle.dq_program.specs.declared.stores.Unkept.TheVariants as unkept

@@ -1,18 +1,17 @@
 //! What the program does: it replays a history, or reports what is kept after it.
-ghost use Rattle.std.specs.Prelude.{◌≡◌, ◌++◌, [], IsTrue, IfOk, OnOk, string_bytes};
+ghost use Rattle.std.specs.Prelude.{[], IsTrue, OnOk};
 ghost use Rattle.std.specs.Io.KnownBytes.{Appends};
 ghost use Rattle.dq_core.specs.Histories.{is_well_formed_history};
 ghost use Rattle.dq_core.specs.Shared.{replies, world_after};
 ghost use Rattle.dq_captures.specs.Printing.{reply_lines};
-ghost use Rattle.dq_replay.specs.Reports.{names_of, counts_text, report_line, report_text};
+ghost use Rattle.dq_captures.specs.Reports.{names_of, report_text};
 
 use crate::stop::Stop;
-use dq_captures::{Sink, print_replies};
-use dq_config::{Config, Institution};
+use dq_captures::{Kept, Sink, lines_of, names_of, print_replies};
+use dq_config::Config;
 use dq_core::{Event, Outcome, run};
-use dq_list::Listed;
-use dq_tables::{Kind, PlainTables, Tables};
-use std::alloc::{AllocError, Global};
+use dq_tables::PlainTables;
+use std::alloc::Global;
 
 /// What is done with a history.
 #[derive(Clone, Copy, Debug, PartialEq, Eq)]
@@ -86,67 +85,6 @@ pub(crate) fn replay<W: Sink>(
     }
 }
 
-/// Returns what is printed of an institution behind its name.
-fn counts_text(alloc: Global, tables: &mut PlainTables, name: &[u8]) -> Result<String, Stop>
-    ensures text { IfOk result (λ text. string_bytes text
-        ≡ counts_text (⟦<PlainTables as Tables>⟧.state tables.old).rows name.now) }
-    ensures rows { OnOk result ((⟦<PlainTables as Tables>⟧.state tables.new).rows
-        ≡ (⟦<PlainTables as Tables>⟧.state tables.old).rows) }
-{
-    let studies = tables.count(Kind::Study, name)?;
-    let series = tables.count(Kind::Series, name)?;
-    let images = tables.count(Kind::Image, name)?;
-    let entries = tables.count(Kind::Entry, name)?;
-    let steps = tables.count(Kind::Step, name)?;
-    Ok(format!(in alloc;
-        " studies {studies} series {series} images {images} entries {entries} steps {steps}\n"
-    )?)
-}
-
-/// Returns the names of institutions, in their order.
-fn names_of(alloc: Global, institutions: &[Institution]) -> Result<Vec<Listed<u8>>, AllocError>
-    ensures { IfOk result (λ names. names.items ≡ names_of institutions.now) }
-{
-    let mut names = Vec::new(alloc);
-    for institution in institutions {
-        names.push(Listed::copy_of(alloc, institution.name.as_slice())?)?;
-    }
-    Ok(names)
-}
-
-/// Adds the line of an institution.
-fn put_line(
-    alloc: Global,
-    text: &mut Vec<u8>,
-    tables: &mut PlainTables,
-    name: &[u8],
-) -> Result<(), Stop>
-    ensures line { OnOk result (text.new.items ≡ text.old.items
-        ++ report_line (⟦<PlainTables as Tables>⟧.state tables.old).rows name.now) }
-    ensures rows { OnOk result ((⟦<PlainTables as Tables>⟧.state tables.new).rows
-        ≡ (⟦<PlainTables as Tables>⟧.state tables.old).rows) }
-{
-    text.extend_from_slice(name)?;
-    text.extend_from_slice(counts_text(alloc, tables, name)?.as_bytes())?;
-    Ok(())
-}
-
-/// Returns the lines of a report.
-fn report_text(
-    alloc: Global,
-    tables: &mut PlainTables,
-    names: &[Listed<u8>],
-) -> Result<Vec<u8>, Stop>
-    ensures { IfOk result (λ text. text.items
-        ≡ report_text (⟦<PlainTables as Tables>⟧.state tables.old).rows names.now) }
-{
-    let mut text = Vec::new(alloc);
-    for name in names {
-        put_line(alloc, &mut text, tables, name.as_slice())?;
-    }
-    Ok(text)
-}
-
 /// Plays a history over rows in memory, of which there are none at first, and prints for each
 /// institution how many rows it has then. Nothing is printed if a fault came.
 pub(crate) fn report<W: Sink>(
@@ -163,12 +101,12 @@ pub(crate) fn report<W: Sink>(
     let Outcome {
         replies: _,
         fault,
-        mut tables,
+        tables,
     } = run(alloc, config, PlainTables::new(alloc), events)?;
     if let Some(fault) = fault {
         return Err(Stop::from(fault));
     }
-    let text = report_text(alloc, &mut tables, names.as_slice())?;
+    let text = lines_of(alloc, &mut Kept { tables }, names.as_slice())?;
     if output.put(text.as_slice()).is_err() || output.finish().is_err() {
         return Err(Stop::Output);
     }
