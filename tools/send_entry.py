@@ -1,17 +1,16 @@
 #!/usr/bin/env python3
-"""Sends entries of the worklist to a server that was started with `--console PATH`, takes one away, or has its store copied.
+"""Schedules a worklist item on a server that was started with `--console PATH`, withdraws one, or has the server back up its store.
 
-This file works alone, where only the program was copied: it needs Python 3.9 and no other package. It prints the
-server's answer. The exit status is 0 for `done`, 1 for a refusal, and 2 if nothing was sent or answered.
+This file is all that is needed: copy it anywhere that has Python 3.9. It prints the server's answer, and exits with 0 for `done`,
+1 for a refusal, and 2 if nothing was sent or there was no answer.
 
-  send_entry.py --console PATH INSTITUTION [FILE]            an entry from FILE, or from standard input
-  send_entry.py --console PATH INSTITUTION --withdraw ID     takes the entry with this ID away
-  send_entry.py --console PATH INSTITUTION --watch FOLDER    each file that comes into FOLDER, until it is ended
-  send_entry.py --console PATH --backup FILE                 copies the server's store into FILE, which is new
+  send_entry.py --console PATH INSTITUTION [FILE]            schedule the item in FILE, or on standard input
+  send_entry.py --console PATH INSTITUTION --withdraw ID     withdraw the item with this Scheduled Procedure Step ID
+  send_entry.py --console PATH INSTITUTION --watch FOLDER    schedule every file that appears in FOLDER, until stopped
+  send_entry.py --console PATH --backup FILE                 copy the server's store to FILE, which must not exist
 
-An entry is a DICOM file (`.wl`, as wlmscpfs takes them), or readable lines. A DICOM file is one of PS3.10 in Implicit or
-Explicit VR Little Endian. Readable lines have an attribute each, by its keyword of PS3.6; a sequence has its items in
-braces. `#` begins a comment:
+An item is a DICOM file (PS3.10, Implicit or Explicit VR Little Endian, such as the `.wl` files of wlmscpfs), or lines with one
+attribute each, by its keyword of PS3.6. A sequence has its items in braces, and `#` begins a comment:
 
     PatientName = DOE^JANE
     PatientID = P100
@@ -25,17 +24,16 @@ braces. `#` begins a comment:
         ScheduledProcedureStepID = S100
     }
 
-`--watch` schedules each file of FOLDER once. It moves the file to FOLDER/done, or to FOLDER/refused with the reason beside
-it in NAME.reason. To try a refused file again, move it back. While no server answers, files stay where they are, and are
-sent when one does.
+`--watch` schedules each file once. It moves the file to FOLDER/done, or to FOLDER/refused with the reason in NAME.reason. To try
+a refused file again, move it back. While no server answers, files stay where they are, and are sent when one does.
 
-  Write elsewhere, then rename. Write a file under a name that begins with a dot, or in another folder of the same disk.
-  Rename it into FOLDER once it is whole. Names with a dot in front are left alone. As a second guard, a file is taken
-  only when a second has passed without a change of it.
+  Write elsewhere, then rename. Write a file under a name that begins with a dot, or in another folder on the same disk, and
+  rename it into FOLDER when it is complete. Names that begin with a dot are ignored. As a second guard, a file is taken only
+  when it has not changed for a second.
 
-  After a stop. If this program or the server stops between an order and its answer, the file stays in FOLDER and is
-  sent again. An entry that was kept the first time is then `refused 3`, and the file goes to FOLDER/refused. Its reason
-  says when the file was sent before: the entry is most likely scheduled, so look at the worklist and delete the file.
+  After an interruption. If this program or the server stops before the answer to a file arrives, the file stays in FOLDER and
+  is sent again. If the item had been kept, the answer is then `refused 3`, and the file goes to FOLDER/refused. Its reason says
+  when it was first sent: the item is most likely scheduled, so look at the worklist and delete the file.
 """
 import argparse
 import collections
