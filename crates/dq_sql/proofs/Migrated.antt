@@ -12,6 +12,7 @@ use Rattle.dq_sql.specs.declared.migrate_fault.MigrateFault.TheVariants.{NoMemor
 use Rattle.dq_sql.specs.declared.version.Version.TheVariants.{One}
 use Rattle.dq_sql.specs.Tie.{IsOfVersion, HasRowsOf, IsAtRest, IsSame, Stays}
 use Rattle.dq_tables.specs.Sound.{IsSound}
+use Rattle.dq_sql.specs.Adopting.{ShowsAnother}
 use Rattle.dq_sql.specs.Filling.{HasThese, IsNotMade}
 use Rattle.dq_sql.specs.Migration.{fault_of_migration, IsMigrated, IsNotTaken, IsNotMigrated}
 
@@ -60,7 +61,7 @@ plain_fault cause (inl is) = inl (ap fault_of_migration is)
 plain_fault cause (inr is) = inr (ap fault_of_migration is)
 
 -- a fault by which the old store is refused
-pub told_by : (old left : State) (cause : StoreFault) → (HasCleanDisk left → cause ≡ store.WrongVersion → ¬ IsOfVersion One old.now)
+pub told_by : (old left : State) (cause : StoreFault) → (HasCleanDisk left → cause ≡ store.WrongVersion → ShowsAnother One old left)
     → (HasCleanDisk left → cause ≡ store.BadRows → IsOfVersion One old.now)
     → (HasCleanDisk left → cause ≡ store.BadRows → (rows : List Row) → HasRowsOf One old.now rows → ¬ IsSound rows)
     → IsNotTaken old left (fault_of_migration cause)

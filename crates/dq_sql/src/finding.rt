@@ -9,7 +9,7 @@ ghost use Rattle.dq_tables.specs.Sound.{IsSound};
 ghost use Rattle.dq_sql.specs.declared.fault.StoreFault.TheVariants.{NoMemory, Store, WrongVersion, BadRows};
 ghost use Rattle.dq_sql.specs.Schema.{version_number, schema_of};
 ghost use Rattle.dq_sql.specs.Tie.{IsOfVersion, HasRowsOf, Stays};
-ghost use Rattle.dq_sql.specs.Adopting.{SaysNumber, HasVersion, HoldOctets, IsOther, IsShaped, IsJudged, AreSound, IsFound};
+ghost use Rattle.dq_sql.specs.Adopting.{SaysNumber, ShowsAnother, HasVersion, HoldOctets, IsOther, IsShaped, IsJudged, AreSound, IsFound};
 
 use crate::fault::StoreFault;
 use crate::ids::are_apart;
@@ -72,6 +72,8 @@ fn is_of_version<S: Alter>(conn: &mut Connection<S>, version: Version) -> Result
         → (state S.Store conn.old).now.schema ≡ schema_of version
         → IfOk result (λ is_so. MatchBool is_so (IsOfVersion version (state S.Store conn.old).now)
         (¬ IsOfVersion version (state S.Store conn.old).now)) }
+    ensures another { HasCleanDisk (state S.Store conn.new) → IfOk result (λ is_so.
+        is_so ≡ false → ShowsAnother version (state S.Store conn.old) (state S.Store conn.new)) }
     ensures fault { IfErr result (λ e. (e ≡ NoMemory) ⊎ (e ≡ Store)) }
     ensures stays { Stays (state S.Store conn.old) (state S.Store conn.new) }
 {
@@ -120,7 +122,7 @@ pub fn kept_rows<S: Alter>(
     ensures other { (¬ HasVersion (state S.Store conn.old).now.schema) → result ≡ Err Store }
     ensures foreign { IsOther (state S.Store conn.old).now.schema → IsErr result }
     ensures wrong { HasCleanDisk (state S.Store conn.new) → result ≡ Err WrongVersion
-        → ¬ IsOfVersion version (state S.Store conn.old).now }
+        → ShowsAnother version (state S.Store conn.old) (state S.Store conn.new) }
     ensures said { HasCleanDisk (state S.Store conn.new) → result ≡ Err BadRows
         → IsOfVersion version (state S.Store conn.old).now }
     ensures bad { HasCleanDisk (state S.Store conn.new) → result ≡ Err BadRows

@@ -7,7 +7,7 @@ ghost use Rattle.sqlite.specs.State.{HasCleanDisk, Shown};
 ghost use Rattle.sqlite.specs.Held.{state};
 ghost use Rattle.dq_tables.specs.Finding.{row_at, rows_of, rows_above, waiting_entries};
 ghost use Rattle.dq_sql.specs.Tie.{is_set, Stays};
-ghost use Rattle.dq_sql.specs.Adopting.{IsJudged};
+ghost use Rattle.dq_sql.specs.Adopting.{IsJudged, number_query};
 ghost use Rattle.dq_sql.specs.Reading.{ShowsNoWrite, ShowsSame, HoldsOf, Shows, kept_shown, numbers_shown, IsCount, row_shown};
 
 use crate::judgement::Judgement;
@@ -406,6 +406,8 @@ pub(crate) fn versions_read<S: Alter>(
 ) -> Result<Vec<sqlite::Row>, TableFault>
     ensures found { HasCleanDisk (state S.Store conn.new) → IfOk result (λ answer.
         (version : _) → Shows version (state S.Store conn.old) numbers_shown answer.items) }
+    ensures shown { HasCleanDisk (state S.Store conn.new) → IfOk result (λ answer.
+        Shown number_query [] (state S.Store conn.old) (state S.Store conn.new) answer.items) }
     ensures stays { Stays (state S.Store conn.old) (state S.Store conn.new) }
 {
     answered(conn, "SELECT number FROM version", &[])
