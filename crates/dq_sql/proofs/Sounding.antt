@@ -14,7 +14,6 @@ use Rattle.sqlite.proofs.Callers.{one_permutation}
 use Rattle.dq_tables.specs.declared.row.Row.{Row}
 use Rattle.dq_tables.specs.Sound.{is_own_row, IsSound}
 use Rattle.dq_tables.proofs.OneOrder.{one_order}
-use Rattle.sqlite_schema.specs.declared.schema.Schema.{Schema}
 use Rattle.dq_sql.specs.declared.version.Version.{Version}
 use Rattle.dq_sql.specs.Schema.{schema_of}
 use Rattle.dq_sql.specs.Tie.{IsKeptRow, row_of_cells, kept_in, same_id, IsOfVersion, HasRowsOf, IsAtRest, IsSame, Stays}

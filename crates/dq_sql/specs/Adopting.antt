@@ -1,5 +1,5 @@
 -- Which rows of a found table are rows of ours.
-use Rattle.std.specs.Prelude.{◌≡◌, ◌≢◌, ℕ, codes, true, pos, List, [], ◌∷◌, ◌++◌, ℤ, Vec, Option, MatchOption, IsTrue, is_some, map, IsPermutation}
+use Rattle.std.specs.Prelude.{◌≡◌, ◌≢◌, ◌⊎◌, ℕ, codes, true, pos, List, [], ◌∷◌, ◌++◌, ℤ, Vec, Option, MatchOption, IsTrue, is_some, map, IsPermutation}
 use Rattle.std.specs.List.{AllByRecursion, Any, IsDistinct}
 use Rattle.dq_list.specs.Octets.{AreOctets}
 use Rattle.sqlite_value.specs.declared.value.Value.TheVariants.{Int, Text, Blob}
@@ -10,7 +10,10 @@ use Rattle.sqlite_rules.specs.Edit.{id_in}
 use Rattle.sqlite_schema.specs.declared.schema.Schema.{Schema}
 use Rattle.sqlite_schema.specs.declared.schema.Table.{Table}
 use Rattle.sqlite.specs.Effect.{IsDatabase}
-use Rattle.sqlite.specs.State.{State, HasCleanDisk, Shown}
+use Rattle.sqlite_trees.specs.declared.store.Store.{Ghosts}
+use Rattle.sqlite.specs.declared.error.Error.{Error}
+use Rattle.sqlite.specs.Held.{Held, state}
+use Rattle.sqlite.specs.State.{State, HasCleanDisk, Shown, FailsToQuery}
 use Rattle.dq_tables.specs.declared.row.Row.{Row}
 use Rattle.dq_tables.specs.Rows.{number_of_kind, IsRising}
 use Rattle.dq_tables.specs.Finding.{row_at}
@@ -19,6 +22,7 @@ use Rattle.dq_sql.specs.declared.fault.StoreFault.{StoreFault}
 use Rattle.dq_sql.specs.declared.fault.StoreFault.TheVariants.{WrongVersion, BadRows}
 use Rattle.dq_sql.specs.declared.judgement.Judgement.{Judgement}
 use Rattle.dq_sql.specs.declared.version.Version.{Version}
+use Rattle.dq_sql.specs.Opening.{store_fault}
 use Rattle.dq_sql.specs.Cells.{patient_cell, day_cell, flag}
 use Rattle.dq_sql.specs.Schema.{version_number, version_table, schema_of}
 use Rattle.dq_sql.specs.Tie.{IsKeptRow, row_of_cells, same_id, IsOfVersion, HasRowsOf, IsAtRest, Stays}
@@ -98,6 +102,22 @@ pub record ShowsAnother (version : Version) (found left : State) : Type 0 where
   pub numbers : List Values
   pub shown : Shown number_query [] found left numbers
   pub other : ¬ SaysNumber version numbers
+
+-- Whatever SQL shows of the numbers in the table `version`, it is not the version's number alone.
+abbrev pub NeverSays : {S : Type 0} → Ghosts S → Version → Held S → Type 0
+NeverSays {S} g version conn = (left : Held S) (numbers : List Values)
+    → Shown number_query [] (state g conn) (state g left) numbers → ¬ SaysNumber version numbers
+
+-- A query fails by an error, which is told as a fault.
+pub record FailsBy (query : List ℕ) (params : Values) (found left : State) (fault : StoreFault)
+    : Type 0 where
+  pub error : Error
+  pub fails : FailsToQuery query params found left error
+  pub is : fault ≡ store_fault error
+
+-- Another number is told as another version, unless the query of the numbers fails.
+abbrev pub IsTold : State → State → StoreFault → Type 0
+IsTold found left fault = (fault ≡ WrongVersion) ⊎ FailsBy number_query [] found left fault
 
 -- the store has the table `version`, in whatever tree
 abbrev pub HasVersion : Schema → Type 0

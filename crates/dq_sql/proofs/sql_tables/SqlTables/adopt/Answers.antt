@@ -6,3 +6,7 @@ returns-clause-refused g c = ∣ (c.in-Err.field-0-1, c.in-Err.ensures.refused) 
 pub returns-clause-welcome : goal.returns-clause-welcome
 returns-clause-welcome g c rows it =
     ∣ (c.in-Err.field-0-1, c.in-Err.ensures.refused.stays, c.in-Err.ensures.welcome rows it) ∣₁
+
+pub returns-clause-told : goal.returns-clause-told
+returns-clause-told g c rest there never =
+    ∣ (c.in-Err.field-0-1, c.in-Err.ensures.refused.stays, c.in-Err.ensures.told rest there never) ∣₁

@@ -43,3 +43,6 @@ pub returns-in-Ok-clause-honest : goal.returns-in-Ok-clause-honest
 returns-in-Ok-clause-honest g c clean =
     let early : HasCleanDisk (state g.S.Store c.kept_rows.new.conn) = subst (λ h. HasCleanDisk (state g.S.Store h)) c.over-in-Ok.ensures.conn clean in
     omega (arith, c.kept_rows.ensures.stays.survives.clean)
+
+pub returns-in-Err-clause-told : goal.returns-in-Err-clause-told
+returns-in-Err-clause-told g c rest there never clean = c.in-Err.ensures.told clean rest there never
