@@ -1,4 +1,5 @@
 mod assemblers;
+mod choices;
 mod data_sets;
 mod dictionary;
 mod fronts;

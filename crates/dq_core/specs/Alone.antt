@@ -1,8 +1,8 @@
--- A device of proofs, which no promise cites: the plain server of one institution that has it to
--- itself, with no names and no routes, no other limits, and all records its own. A request that
+-- The plain server of one institution that has it to itself, with no names and no routes, no other
+-- limits, and all records its own. A request that
 -- passes the checks of its version, application context and maximum length is accepted, unless the
 -- associations are at their limit.
-use Rattle.std.specs.Prelude.{ℕ, false, List, [], ◌∷◌, ◌++◌, length, filter, is_some, Option, Some, None}
+use Rattle.std.specs.Prelude.{ℕ, Bool, false, if◌then◌else◌, List, [], ◌∷◌, ◌++◌, length, filter, take, drop, is_some, Option, Some, None}
 use Rattle.dq_assoc.specs.Inputs.{inputs}
 use Rattle.dq_core.specs.declared.event.Event.{Event}
 use Rattle.dq_core.specs.declared.event.Event.TheVariants as event
@@ -113,3 +113,18 @@ alone_replies limits records events = alone_replies_from limits (alone_opening r
 -- what is held and kept after it
 abbrev pub alone_after : Limits → List Record → List Event → AloneWorld
 alone_after limits records events = alone_world_from limits (alone_opening records) events
+
+-- the changes of the next event, if it passes a test
+abbrev pub changes_next : Limits → AloneWorld → (Event → Bool) → List Event → List (List Edit)
+changes_next limits world mine [] = []
+changes_next limits world mine (e ∷ events) =
+    if mine e then (alone_turn limits world e).changes else []
+
+-- The records after those among the first events of a history that pass a test, and after the first
+-- changes of the next event, if it passes it.
+abbrev pub records_within : Limits → List Record → (Event → Bool) → List Event → ℕ → ℕ
+    → List Record
+records_within limits records mine events answered changes =
+    let world = alone_after limits records (filter mine (take answered events)) in
+    let next = changes_next limits world mine (drop answered events) in
+    edited_all (take changes next) world.records

@@ -1,6 +1,7 @@
 -- What a run of a history comes to, also where a fault ends it.
 use Rattle.std.specs.Prelude.{◌≡◌, ℕ, suc, ◌⊎◌, List, [], ◌∷◌, length, take, drop, Option, Some}
 use Rattle.dq_config.specs.declared.config.Institution.{Institution}
+use Rattle.dq_config.specs.Limits.{limits_of}
 use Rattle.dq_tables.specs.declared.row.Row.{Row}
 use Rattle.dq_tables.specs.Rows.{of}
 use Rattle.dq_core.specs.declared.event.Event.{Event}
@@ -9,8 +10,9 @@ use Rattle.dq_core.specs.declared.fault.Fault.{Fault}
 use Rattle.dq_core.specs.declared.fault.Fault.TheVariants.{NoMemory}
 use Rattle.dq_core.specs.Connections.{Connection}
 use Rattle.dq_core.specs.Shared.{replies, world_after, rows_within}
-use Rattle.dq_core.specs.Own.{is_own_event, replies_at}
-use Rattle.dq_core.specs.Isolation.{own_replies, own_rows_within}
+use Rattle.dq_core.specs.Alone.{alone_replies, alone_after, records_within}
+use Rattle.dq_core.specs.Own.{is_own_event, own, replies_at}
+use Rattle.dq_core.specs.Isolation.{own_among, own_replies, own_rows_within}
 use Rattle.dq_core.specs.Stepping.{TakesNoMemory}
 
 -- The replies are those to the first events, and the rows those after these events and the first
@@ -59,3 +61,22 @@ pub record IsOwnRun (institutions : List Institution) (rows : List Row) (events 
   pub operations : ℕ
   pub same_records : of i.name kept
       ≡ of i.name (own_rows_within institutions rows events i (length given) operations)
+
+-- The same of the server of one institution that has neither names nor routes.
+pub record IsRunByRecords (institutions : List Institution) (rows : List Row) (events : List Event)
+    (i : Institution) (given : List Reply) (kept : List Row) : Type 0 where
+  pub same_replies : replies_at (is_own_event institutions i.name events) events given
+      ≡ alone_replies (limits_of i) (of i.name rows)
+      (own_among institutions i.name events (length given))
+  pub operations : ℕ
+  pub same_records : of i.name kept
+      ≡ records_within (limits_of i) (of i.name rows) (is_own_event institutions i.name events)
+      events (length given) operations
+
+-- Where no fault came, so it is of the whole history.
+pub record IsWholeByRecords (institutions : List Institution) (rows : List Row)
+    (events : List Event) (i : Institution) (given : List Reply) (kept : List Row) : Type 0 where
+  pub same_replies : replies_at (is_own_event institutions i.name events) events given
+      ≡ alone_replies (limits_of i) (of i.name rows) (own institutions i.name events)
+  pub same_records : of i.name kept
+      ≡ (alone_after (limits_of i) (of i.name rows) (own institutions i.name events)).records

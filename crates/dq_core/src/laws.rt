@@ -12,7 +12,7 @@ ghost use Rattle.dq_config.specs.Limits.{Limits, limits_of};
 ghost use Rattle.dq_core.specs.Answers.{piece_answer, then_answer, request_in};
 ghost use Rattle.dq_core.specs.Owners.{owner, live_of, HaveOwnNames};
 ghost use Rattle.dq_core.specs.Shared.{turn, replies, world_after, rows_within};
-ghost use Rattle.dq_core.specs.Alone.{alone_replies, alone_after};
+ghost use Rattle.dq_core.specs.Alone.{alone_replies, alone_after, records_within};
 ghost use Rattle.dq_core.specs.Own.{is_own_event, own, is_on_connection, stream_of, replies_at, outputs_on};
 ghost use Rattle.dq_core.specs.Histories.{is_well_formed_history, opened_numbers};
 ghost use Rattle.dq_core.specs.Runs.{IsRun, IsLeftOf, IsOwnRun};
@@ -206,9 +206,9 @@ pub fn institutions_are_isolated()
     rows_stay_in_order();
 }
 
-/// A device of proofs: the server of one institution as a definition of its own, which has no names
-/// and no routes, and to which each request is the institution's. It answers own events in the same
-/// way, and leaves the same records, whatever the numbers of connections are.
+/// The server of one institution as a definition of its own, which has no names and no routes, and to
+/// which each request is the institution's. It answers own events in the same way, and leaves the
+/// same records: after the history, and within it. So it is whatever the numbers of connections are.
 pub fn institutions_are_answered_by_records()
     ensures first_replies { (institutions : List Institution) (rows : List Row)
         (events : List Event) (i : Institution) (answered : ℕ) →
@@ -221,6 +221,12 @@ pub fn institutions_are_answered_by_records()
         (i : Institution) → Begins institutions rows events i →
         of i.name (world_after institutions rows events).rows ≡
         (alone_after (limits_of i) (of i.name rows) (own institutions i.name events)).records }
+    ensures records_within { (institutions : List Institution) (rows : List Row)
+        (events : List Event) (i : Institution) (answered operations : ℕ) →
+        Begins institutions rows events i →
+        of i.name (rows_within institutions rows events answered operations)
+        ≡ records_within (limits_of i) (of i.name rows) (is_own_event institutions i.name events)
+        events answered operations }
     ensures prefix { (institutions : List Institution) (rows : List Row) (events : List Event)
         (i : Institution) (answered : ℕ) →
         IsPrefix (alone_replies (limits_of i) (of i.name rows)

@@ -2,6 +2,7 @@
 #![tactic(auto)]
 
 mod answer_queue;
+mod brought_octets;
 mod connections;
 mod dimse_operation;
 mod event;

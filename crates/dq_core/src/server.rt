@@ -8,7 +8,9 @@ ghost use Rattle.dq_core.specs.Shared.{World, turn, world_after, replies};
 ghost use Rattle.dq_core.specs.Owners.{owner};
 ghost use Rattle.dq_core.specs.Own.{is_own_event, own, is_on_connection, stream_of, replies_at};
 ghost use Rattle.dq_core.specs.Isolation.{replies_alone, world_alone, stranger_replies};
-ghost use Rattle.dq_core.specs.Runs.{IsRun, IsLeftOf, FaultsAfter, HasNoRoom, IsOwnRun};
+ghost use Rattle.dq_core.specs.Runs.{IsRun, IsLeftOf, FaultsAfter, HasNoRoom, IsOwnRun, IsRunByRecords, IsWholeByRecords};
+ghost use Rattle.dq_core.specs.Soundness.{HoldSound, BringOctets};
+ghost use Rattle.dq_core.specs.Conversations.{IsAnsweredRun};
 ghost use Rattle.dq_core.specs.Histories.{is_above, newest_after, rises_from, is_well_formed_history};
 ghost use Rattle.dq_core.specs.Stepping.{Opens, TakesNoMemory, Goes, MayLeaveAfter, IsPartOf};
 ghost use Rattle.dq_core.specs.Slots.{has_slot, has_search, AreHeld, Turned};
@@ -17,10 +19,14 @@ ghost use Rattle.dq_tables.specs.Finding.{rows_of};
 ghost use Rattle.dq_core.specs.Looking.{Looked, FailsToLook};
 ghost use Rattle.dq_core.specs.Showing.{found_for, steps_for};
 
+use crate::brought_octets::bring_octets;
 use crate::connections::Connections;
 use crate::event::{Event, Reply};
 use crate::fault::Fault;
-use crate::laws::{institutions_are_isolated, institutions_have_own_names, runs_are_isolated};
+use crate::laws::{
+    associations_are_answered_in_full, institutions_are_answered_by_records,
+    institutions_are_isolated, institutions_have_own_names, runs_are_isolated,
+};
 use crate::look::Look;
 use crate::notes::Notes;
 use crate::orders::{schedule_entry, withdraw_entry};
@@ -588,12 +594,29 @@ pub fn run<T: Tables + Drop>(
         (i : Institution) → Contains config i →
         of i.name (T.state outcome.tables).rows
         ≡ of i.name (world_alone i (T.state tables).rows (own config i.name events.items)).rows) }
+    // That server needs neither names nor routes, only the institution's limits and records.
+    ensures by_records { IfOk result (λ outcome. (T.state outcome.tables).honest →
+        (i : Institution) → Contains config i →
+        IsRunByRecords config (T.state tables).rows events.items i outcome.replies
+        (T.state outcome.tables).rows) }
+    ensures whole_by_records { IfOk result (λ outcome. (T.state outcome.tables).honest →
+        outcome.fault ≡ None →
+        (i : Institution) → Contains config i →
+        IsWholeByRecords config (T.state tables).rows events.items i outcome.replies
+        (T.state outcome.tables).rows) }
     // On a connection that nobody owns the replies are a stranger's.
     ensures strangers { IfOk result (λ outcome. (T.state outcome.tables).honest →
         (number : ℕ) → owner config (stream_of number events.items) ≡ None →
         replies_at (is_on_connection number) events.items outcome.replies
         ≡ stranger_replies (filter (is_on_connection number)
         (take (length outcome.replies) events.items))) }
+    // On a connection of an institution the replies send its conversation. Over sound rows each
+    // C-FIND in it that ends with 0000 is answered with exactly the records that match, in the order
+    // of their keys.
+    ensures exact { IfOk result (λ outcome. (T.state outcome.tables).honest →
+        HoldSound (T.state tables).rows → (number : ℕ) (i : Institution) →
+        owner config (stream_of number (take (length outcome.replies) events.items)) ≡ Some i →
+        IsAnsweredRun config (T.state tables).rows events.items outcome.replies number i) }
     ensures faults { IfOk result (λ outcome. outcome.fault ≢ Some Fault.Stopped) }
     // The store failed in the run exactly where that is the fault.
     ensures store { IfOk result (λ outcome.
@@ -605,8 +628,11 @@ pub fn run<T: Tables + Drop>(
 {
     runs_are_isolated();
     institutions_are_isolated();
+    institutions_are_answered_by_records();
+    associations_are_answered_in_full();
     institutions_have_own_names();
     config.is_sound();
+    bring_octets(&events);
     let outcome = answer_history(alloc, config, tables, events);
     Ok(outcome)
 }

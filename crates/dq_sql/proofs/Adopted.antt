@@ -1,16 +1,19 @@
 -- What tables over a store keep that is found.
-use Rattle.std.proofs.Common.{◌≡◌, List, IsTrue, Result, Ok, Err, IfErr, inl, inr, sym, ap, subst, ◌∙◌}
+use Rattle.std.proofs.Common.{◌≡◌, false, List, IsTrue, Result, Ok, Err, IfErr, inl, inr, sym, ap, subst, ◌∙◌}
 use Rattle.std.specs.Prelude.{IsErrAnd}
 use Rattle.sqlite_trees.specs.Tree.{Trees}
 use Rattle.sqlite.specs.Effect.{Database}
 use Rattle.sqlite.specs.State.{State, HasCleanDisk}
 use Rattle.dq_tables.specs.declared.row.Row.{Row}
 use Rattle.dq_sql.specs.declared.fault.StoreFault.{StoreFault}
+use Rattle.dq_sql.specs.declared.version.Version.{Version}
 use Rattle.dq_sql.specs.declared.version.Version.TheVariants.{Two}
-use Rattle.dq_sql.specs.Tie.{HasRows, Stays}
+use Rattle.dq_sql.specs.Tie.{HasRows, IsOfVersion, Stays}
 use Rattle.dq_sql.specs.Keeping.{under_schema, MayLeave, KeepsSoundRows}
 use Rattle.dq_sql.specs.Kept.{one_list}
-use Rattle.dq_sql.specs.Adopting.{IsFound}
+use Rattle.dq_sql.specs.Adopting.{IsFound, ShowsAnother}
+use Rattle.dq_sql.proofs.Meaning.{shows_versions}
+use Rattle.dq_sql.proofs.Sounding.{version_told}
 
 -- trees that are those of a database with rows have the rows
 under : (d : Database) (trees : Trees) (rows : List Row) → HasRows d rows → trees ≡ d.trees → HasRows (under_schema trees) rows
@@ -57,3 +60,8 @@ found_crash a b stays clean r left = record {
 pub refused_by : {A : Type 0} (r : Result A StoreFault) (P : StoreFault → Type 0) {fault : StoreFault} → IsErrAnd r (λ e. e ≡ fault) → P fault → IfErr r P
 refused_by (Ok x) P is p = tt
 refused_by (Err e) P is p = rw is p
+
+-- A store that shows another number is not of the version.
+pub another_is_not : (version : Version) (found left : State) → ShowsAnother version found left → ¬ IsOfVersion version found.now
+another_is_not version found left it is =
+    version_told version found it.numbers is.schema (shows_versions found left it.numbers it.shown version) false it.other is

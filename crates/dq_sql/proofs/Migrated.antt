@@ -12,8 +12,9 @@ use Rattle.dq_sql.specs.declared.migrate_fault.MigrateFault.TheVariants.{NoMemor
 use Rattle.dq_sql.specs.declared.version.Version.TheVariants.{One}
 use Rattle.dq_sql.specs.Tie.{IsOfVersion, HasRowsOf, IsAtRest, IsSame, Stays}
 use Rattle.dq_tables.specs.Sound.{IsSound}
+use Rattle.dq_sql.specs.Adopting.{ShowsAnother, IsTold}
 use Rattle.dq_sql.specs.Filling.{HasThese, IsNotMade}
-use Rattle.dq_sql.specs.Migration.{fault_of_migration, IsMigrated, IsNotTaken, IsNotMigrated}
+use Rattle.dq_sql.specs.Migration.{fault_of_migration, IsMigrated, IsNotTaken, IsToldOfOld, IsNotMigrated}
 
 pub survives_itself : (s : State) (P : Trees → Type 0) → Survives s s P
 survives_itself s P = record {
@@ -60,7 +61,7 @@ plain_fault cause (inl is) = inl (ap fault_of_migration is)
 plain_fault cause (inr is) = inr (ap fault_of_migration is)
 
 -- a fault by which the old store is refused
-pub told_by : (old left : State) (cause : StoreFault) → (HasCleanDisk left → cause ≡ store.WrongVersion → ¬ IsOfVersion One old.now)
+pub told_by : (old left : State) (cause : StoreFault) → (HasCleanDisk left → cause ≡ store.WrongVersion → ShowsAnother One old left)
     → (HasCleanDisk left → cause ≡ store.BadRows → IsOfVersion One old.now)
     → (HasCleanDisk left → cause ≡ store.BadRows → (rows : List Row) → HasRowsOf One old.now rows → ¬ IsSound rows)
     → IsNotTaken old left (fault_of_migration cause)
@@ -96,3 +97,9 @@ not_filled old left new after rows are survives mode same = record {
 
 pub unmade_itself : (s : State) (rows : List Row) → IsNotMade s s rows
 unmade_itself s rows = record { survives = survives_itself s _; mode = λ out. out; same = λ clean opened rest. same_itself s opened }
+
+pub told_of_old : {A : Type 0} (old left : State) (r : Result A MigrateFault) (cause : StoreFault) → IsErrAnd r (λ e. e ≡ fault_of_migration cause)
+    → IsTold old left cause → IsErrAnd r (IsToldOfOld old left)
+told_of_old old left (Ok x) cause is told = is
+told_of_old old left (Err e) cause is (inl wrong) = inl (is ∙ ap fault_of_migration wrong)
+told_of_old old left (Err e) cause is (inr fails) = inr (cause, fails, is)

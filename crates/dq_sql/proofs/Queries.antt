@@ -17,6 +17,7 @@ use Rattle.sqlite.proofs.Callers.{IsPlain, command_of}
 use Rattle.dq_sql.specs.declared.version.Version.{Version}
 use Rattle.dq_sql.specs.declared.version.Version.TheVariants.{One, Two}
 use Rattle.dq_sql.specs.Schema.{schema_of}
+use Rattle.dq_sql.specs.Adopting.{number_query}
 
 -- each row of a tree that passes these tests, shown by these terms, in this order
 abbrev pub selecting : ℕ → List Term → Option Grouping → List Term → List (Term × Key) → Query
@@ -107,7 +108,7 @@ all_text One = codes "SELECT rowid, kind, inst, id, above, patient, day, octets,
 all_text Two = codes "SELECT rowid, kind, inst, id, above, patient, day, octets, started FROM kept ORDER BY kind, inst, id"
 
 abbrev pub version_text : List ℕ
-version_text = codes "SELECT number FROM version"
+version_text = number_query
 
 -- version 1 has no last column, which would be 0
 abbrev pub last_column : Version → Term

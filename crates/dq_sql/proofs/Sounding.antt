@@ -1,5 +1,5 @@
 -- What a store has whose found rows are sound.
-use Rattle.std.proofs.Common.{◌≡◌, ◌≢◌, List, [], ◌∷◌, map, length, IsTrue, IfOk, MatchBool, Result, Ok, Err, Bool, true, false, refl, sym, ap, subst, ◌∙◌, arith}
+use Rattle.std.proofs.Common.{◌≡◌, List, [], ◌∷◌, map, IsTrue, IfOk, MatchBool, Result, Ok, Err, Bool, true, false, refl, sym, ap, subst, ◌∙◌, arith}
 use Rattle.std.specs.List.{AllByRecursion, IsDistinct}
 use Rattle.std.specs.List.Sorted.{IsPermutation}
 use Rattle.std.proofs.lemmas.List.Sorted.{IsPermutation-sym, IsPermutation-trans, IsPermutation-map}
@@ -14,14 +14,11 @@ use Rattle.sqlite.proofs.Callers.{one_permutation}
 use Rattle.dq_tables.specs.declared.row.Row.{Row}
 use Rattle.dq_tables.specs.Sound.{is_own_row, IsSound}
 use Rattle.dq_tables.proofs.OneOrder.{one_order}
-use Rattle.sqlite_schema.specs.declared.schema.Schema.{Schema}
-use Rattle.sqlite_schema.specs.declared.schema.Table.{Table}
 use Rattle.dq_sql.specs.declared.version.Version.{Version}
-use Rattle.dq_sql.specs.declared.version.Version.TheVariants.{One, Two}
 use Rattle.dq_sql.specs.Schema.{schema_of}
 use Rattle.dq_sql.specs.Tie.{IsKeptRow, row_of_cells, kept_in, same_id, IsOfVersion, HasRowsOf, IsAtRest, IsSame, Stays}
 use Rattle.dq_sql.specs.Reading.{selected_columns, ShowsSame, Shows, kept_shown, numbers_shown}
-use Rattle.dq_sql.specs.Adopting.{IsGood, AreGood, AreSound, SaysNumber, IsShaped, IsFound}
+use Rattle.dq_sql.specs.Adopting.{IsGood, AreGood, AreSound, SaysNumber, IsFound}
 use Rattle.dq_sql.proofs.Ordered.{each_moved}
 use Rattle.dq_sql.proofs.Added.{apart_back}
 
@@ -45,17 +42,6 @@ module _ (version : Version) (s : State) (found : List Values) (ours : s.now.sch
   }
   version_told false other =
       λ it. other (one_permutation _ _ (subst (λ l. IsPermutation l (map (λ r. column r 0) found)) it.says numbers))
-
--- a schema is of one version
-pub one_version : (a b : Version) → schema_of a ≡ schema_of b → a ≡ b
-unfolding schema_of
-one_version One One same = refl
-one_version Two Two same = refl
-one_version One Two same = absurd (let n = ap (λ (s : Schema). map (λ (t : Table). length t.columns) s.tables) same in cc)
-one_version Two One same = absurd (let n = ap (λ (s : Schema). map (λ (t : Table). length t.columns) s.tables) same in cc)
-
-pub not_version : (a b : Version) (s : State) → IsShaped a s → a ≢ b → ¬ IsOfVersion b s.now
-not_version a b s shaped other it = other (one_version a b (sym shaped.schema ∙ it.schema))
 
 both_ways : (x y : Bool) → (x ≡ false → y ≡ false) → (y ≡ false → x ≡ false) → x ≡ y
 both_ways true true p q = refl

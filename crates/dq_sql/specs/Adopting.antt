@@ -1,5 +1,5 @@
 -- Which rows of a found table are rows of ours.
-use Rattle.std.specs.Prelude.{◌≡◌, ◌≢◌, true, pos, List, [], ◌∷◌, ◌++◌, ℤ, Vec, Option, MatchOption, IsTrue, is_some, map, IsPermutation}
+use Rattle.std.specs.Prelude.{◌≡◌, ◌≢◌, ◌⊎◌, ℕ, codes, true, pos, List, [], ◌∷◌, ◌++◌, ℤ, Vec, Option, MatchOption, IsTrue, is_some, map, IsPermutation}
 use Rattle.std.specs.List.{AllByRecursion, Any, IsDistinct}
 use Rattle.dq_list.specs.Octets.{AreOctets}
 use Rattle.sqlite_value.specs.declared.value.Value.TheVariants.{Int, Text, Blob}
@@ -10,7 +10,10 @@ use Rattle.sqlite_rules.specs.Edit.{id_in}
 use Rattle.sqlite_schema.specs.declared.schema.Schema.{Schema}
 use Rattle.sqlite_schema.specs.declared.schema.Table.{Table}
 use Rattle.sqlite.specs.Effect.{IsDatabase}
-use Rattle.sqlite.specs.State.{State, HasCleanDisk}
+use Rattle.sqlite_trees.specs.declared.store.Store.{Ghosts}
+use Rattle.sqlite.specs.declared.error.Error.{Error}
+use Rattle.sqlite.specs.Held.{Held, state}
+use Rattle.sqlite.specs.State.{State, HasCleanDisk, Shown, FailsToQuery}
 use Rattle.dq_tables.specs.declared.row.Row.{Row}
 use Rattle.dq_tables.specs.Rows.{number_of_kind, IsRising}
 use Rattle.dq_tables.specs.Finding.{row_at}
@@ -19,6 +22,7 @@ use Rattle.dq_sql.specs.declared.fault.StoreFault.{StoreFault}
 use Rattle.dq_sql.specs.declared.fault.StoreFault.TheVariants.{WrongVersion, BadRows}
 use Rattle.dq_sql.specs.declared.judgement.Judgement.{Judgement}
 use Rattle.dq_sql.specs.declared.version.Version.{Version}
+use Rattle.dq_sql.specs.Opening.{store_fault}
 use Rattle.dq_sql.specs.Cells.{patient_cell, day_cell, flag}
 use Rattle.dq_sql.specs.Schema.{version_number, version_table, schema_of}
 use Rattle.dq_sql.specs.Tie.{IsKeptRow, row_of_cells, same_id, IsOfVersion, HasRowsOf, IsAtRest, Stays}
@@ -88,6 +92,33 @@ pub record IsJudged (found : List Values) (judgement : Judgement) : Type 0 where
 abbrev pub SaysNumber : Version → List Values → Type 0
 SaysNumber version found = map (λ r. column r 0) found ≡ Int (pos (version_number version)) ∷ []
 
+-- the query of the numbers in the table `version`
+abbrev pub number_query : List ℕ
+number_query = codes "SELECT number FROM version"
+
+-- By the meaning that SQL gives the query, whatever else the store has, it does not show the
+-- version's number, and that alone.
+pub record ShowsAnother (version : Version) (found left : State) : Type 0 where
+  pub numbers : List Values
+  pub shown : Shown number_query [] found left numbers
+  pub other : ¬ SaysNumber version numbers
+
+-- Whatever SQL shows of the numbers in the table `version`, it is not the version's number alone.
+abbrev pub NeverSays : {S : Type 0} → Ghosts S → Version → Held S → Type 0
+NeverSays {S} g version conn = (left : Held S) (numbers : List Values)
+    → Shown number_query [] (state g conn) (state g left) numbers → ¬ SaysNumber version numbers
+
+-- A query fails by an error, which is told as a fault.
+pub record FailsBy (query : List ℕ) (params : Values) (found left : State) (fault : StoreFault)
+    : Type 0 where
+  pub error : Error
+  pub fails : FailsToQuery query params found left error
+  pub is : fault ≡ store_fault error
+
+-- Another number is told as another version, unless the query of the numbers fails.
+abbrev pub IsTold : State → State → StoreFault → Type 0
+IsTold found left fault = (fault ≡ WrongVersion) ⊎ FailsBy number_query [] found left fault
+
 -- the store has the table `version`, in whatever tree
 abbrev pub HasVersion : Schema → Type 0
 HasVersion schema = Any (λ (t : Table). t ≡ record version_table { tree = t.tree }) schema.tables
@@ -116,11 +147,11 @@ pub record IsFound (version : Version) (s : State) (rows : List Row) : Type 0 wh
   pub sound : IsSound rows
 
 -- A store that should be of a version is refused by a fault, and stays as it is. As far as the disk
--- returned what was written, the fault is true of the store: one of a wrong version is not of the
--- version, and one with bad rows is, and no rows that it has are sound.
+-- returned what was written, the fault is true of the store: one of a wrong version shows another
+-- number, and one with bad rows is of the version, and no rows that it has are sound.
 pub record IsRefused (found left : State) (version : Version) (fault : StoreFault) : Type 0 where
   pub stays : Stays found left
-  pub wrong : HasCleanDisk left → fault ≡ WrongVersion → ¬ IsOfVersion version found.now
+  pub wrong : HasCleanDisk left → fault ≡ WrongVersion → ShowsAnother version found left
   pub said : HasCleanDisk left → fault ≡ BadRows → IsOfVersion version found.now
   pub bad : HasCleanDisk left → fault ≡ BadRows
       → (rows : List Row) → HasRowsOf version found.now rows → ¬ IsSound rows

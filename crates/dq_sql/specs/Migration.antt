@@ -1,5 +1,5 @@
 -- What a migration of one store into another leaves of both.
-use Rattle.std.specs.Prelude.{◌≡◌, ℕ, false, List, IsTrue}
+use Rattle.std.specs.Prelude.{◌≡◌, ◌⊎◌, ℕ, false, List, [], IsTrue}
 use Rattle.sqlite_trees.specs.Tree.{Trees}
 use Rattle.sqlite.specs.State.{State, HasCleanDisk, Survives}
 use Rattle.dq_tables.specs.declared.row.Row.{Row}
@@ -11,7 +11,7 @@ use Rattle.dq_sql.specs.declared.migrate_fault.MigrateFault.TheVariants.{NoMemor
 use Rattle.dq_sql.specs.declared.version.Version.TheVariants.{One}
 use Rattle.dq_sql.specs.Tie.{IsOfVersion, HasRowsOf, HasRows, IsAtRest, IsSame, Stays}
 use Rattle.dq_sql.specs.Keeping.{under_schema}
-use Rattle.dq_sql.specs.Adopting.{IsFound}
+use Rattle.dq_sql.specs.Adopting.{IsFound, ShowsAnother, FailsBy, number_query}
 use Rattle.dq_sql.specs.Migrating.{migrated_rows}
 
 abbrev pub migrate_fault_number : MigrateFault → ℕ
@@ -46,14 +46,19 @@ pub record HasMigrated (s : State) (trees : Trees) : Type 0 where
   pub has : HasRows (under_schema trees) rows
 
 -- The old store is not taken by a fault, which is true of it as far as its disk returned what was
--- written: one of a wrong version is not of version 1, and one with bad rows is, and no rows that it
--- has are sound.
+-- written: one of a wrong version shows another number than 1, and one with bad rows is of version 1,
+-- and no rows that it has are sound.
 pub record IsNotTaken (old left : State) (fault : MigrateFault) : Type 0 where
-  pub wrong : HasCleanDisk left → fault ≡ WrongVersion → ¬ IsOfVersion One old.now
+  pub wrong : HasCleanDisk left → fault ≡ WrongVersion → ShowsAnother One old left
   pub said : HasCleanDisk left → fault ≡ BadRows → IsOfVersion One old.now
   pub bad
       : HasCleanDisk left → fault ≡ BadRows
       → (rows : List Row) → HasRowsOf One old.now rows → ¬ IsSound rows
+
+-- Another number in the old store is told as another version, unless the query of the numbers fails.
+abbrev pub IsToldOfOld : State → State → MigrateFault → Type 0
+IsToldOfOld old left fault = (fault ≡ WrongVersion)
+    ⊎ ((cause : StoreFault) × FailsBy number_query [] old left cause × (fault ≡ fault_of_migration cause))
 
 -- A migration is refused. The new store shows what it showed, and a crash leaves of it what it could
 -- leave before, or all rows, migrated.

@@ -7,7 +7,8 @@ ghost use Rattle.dq_tables.specs.Keeping.{IsSettled};
 ghost use Rattle.dq_sql.specs.declared.fault.StoreFault.TheVariants.{Store, WrongVersion, BadRows};
 ghost use Rattle.dq_sql.specs.declared.version.Version.TheVariants.{Two};
 ghost use Rattle.dq_sql.specs.Keeping.{MayLeave};
-ghost use Rattle.dq_sql.specs.Adopting.{HasVersion, HoldOctets, IsOther, IsFound, IsRefused};
+ghost use Rattle.dq_sql.specs.Tie.{Stays};
+ghost use Rattle.dq_sql.specs.Adopting.{HasVersion, NeverSays, IsTold, HoldOctets, IsOther, IsFound, IsRefused};
 ghost use Rattle.dq_sql.specs.Restarting.{IsReopened};
 
 use crate::fault::StoreFault;
@@ -51,6 +52,9 @@ impl<S: Alter + Drop> SqlTables<S> {
         ensures foreign { IsOther (state S.Store conn).now.schema → IsErr result }
         ensures refused { IfErr result
             (λ e. IsRefused (state S.Store conn) (state S.Store e.1) Two e.0) }
+        ensures told { conn.in_transaction ≡ false → HasVersion (state S.Store conn).now.schema
+            → NeverSays S.Store Two conn → IfErr result (λ e. HasCleanDisk (state S.Store e.1)
+            → IsTold (state S.Store conn) (state S.Store e.1) e.0) }
         ensures again { (rows : List Row) → IsReopened (state S.Store conn) rows
             → IfOk result (λ t. (⟦<SqlTables<S> as Tables>⟧.state t).honest
             → (⟦<SqlTables<S> as Tables>⟧.state t).rows ≡ rows) }
@@ -70,6 +74,8 @@ impl<S: Alter + Drop> SqlTables<S> {
             → IsFound Two (state S.Store conn) (⟦<SqlTables<S> as Tables>⟧.state t).rows) }
         ensures octets { IfOk result (λ t.
             HoldOctets (⟦<SqlTables<S> as Tables>⟧.state t).rows) }
+        ensures honest { IfOk result (λ t. (⟦<SqlTables<S> as Tables>⟧.state t).honest
+            → HasCleanDisk (state S.Store conn)) }
         ensures failed { IfOk result (λ t. (⟦<SqlTables<S> as Tables>⟧.state t).failed ≡ false) }
         ensures settled { IfOk result (λ t. (⟦<SqlTables<S> as Tables>⟧.state t).honest
             → IsSettled (⟦<SqlTables<S> as Tables>⟧.state t)) }
@@ -81,6 +87,19 @@ impl<S: Alter + Drop> SqlTables<S> {
         ensures foreign { IsOther (state S.Store conn).now.schema → IsErr result }
         ensures refused { IfErr result (λ e.
             ∥ ((left : Held S) × IsRefused (state S.Store conn) (state S.Store left) Two e) ∥₁) }
+        ensures told { conn.in_transaction ≡ false → HasVersion (state S.Store conn).now.schema
+            → NeverSays S.Store Two conn → IfErr result (λ e. ∥ ((left : Held S)
+            × Stays (state S.Store conn) (state S.Store left)
+            × (HasCleanDisk (state S.Store left)
+            → IsTold (state S.Store conn) (state S.Store left) e)) ∥₁) }
+        ensures again { (rows : List Row) → IsReopened (state S.Store conn) rows
+            → IfOk result (λ t. (⟦<SqlTables<S> as Tables>⟧.state t).honest
+            → (⟦<SqlTables<S> as Tables>⟧.state t).rows ≡ rows) }
+        ensures welcome { (rows : List Row) → IsReopened (state S.Store conn) rows
+            → IfErr result (λ e. ∥ ((left : Held S)
+            × Stays (state S.Store conn) (state S.Store left)
+            × (HasCleanDisk (state S.Store left)
+            → (e ≢ WrongVersion) × (e ≢ BadRows))) ∥₁) }
     {
         match SqlTables::adopt_lent(alloc, conn) {
             Ok(tables) => Ok(tables),

@@ -1,5 +1,5 @@
 //! The rows of a store that is found.
-ghost use Rattle.std.specs.Prelude.{◌≡◌, ◌≢◌, ◌⊎◌, List, pos, Err, IfSome, IfOk, IfErr, IsErr, IsTrue, OnOk, MatchBool, false};
+ghost use Rattle.std.specs.Prelude.{◌≡◌, ◌≢◌, ◌⊎◌, List, pos, Err, IfSome, IfOk, IfErr, IsErr, IsErrAnd, IsTrue, OnOk, MatchBool, true, false, []};
 ghost use Rattle.sqlite_value.specs.declared.value.Value.TheVariants.{Int};
 ghost use Rattle.sqlite_value.specs.Order.{Row as Values, column};
 ghost use Rattle.sqlite.specs.State.{HasCleanDisk, IsLive};
@@ -9,7 +9,7 @@ ghost use Rattle.dq_tables.specs.Sound.{IsSound};
 ghost use Rattle.dq_sql.specs.declared.fault.StoreFault.TheVariants.{NoMemory, Store, WrongVersion, BadRows};
 ghost use Rattle.dq_sql.specs.Schema.{version_number, schema_of};
 ghost use Rattle.dq_sql.specs.Tie.{IsOfVersion, HasRowsOf, Stays};
-ghost use Rattle.dq_sql.specs.Adopting.{SaysNumber, HasVersion, HoldOctets, IsOther, IsShaped, IsJudged, AreSound, IsFound};
+ghost use Rattle.dq_sql.specs.Adopting.{SaysNumber, number_query, ShowsAnother, NeverSays, FailsBy, IsTold, HasVersion, HoldOctets, IsOther, IsShaped, IsJudged, AreSound, IsFound};
 
 use crate::fault::StoreFault;
 use crate::ids::are_apart;
@@ -39,7 +39,9 @@ fn version_found<S: Alter>(conn: &Connection<S>) -> Option<Version>
 
 /// Whether a store has the table that says its version, where no transaction is open.
 fn tells_version<S: Alter>(conn: &Connection<S>) -> bool
-    ensures { IsTrue result → HasVersion (state S.Store conn.now).now.schema }
+    ensures has { IsTrue result → HasVersion (state S.Store conn.now).now.schema }
+    ensures told { conn.now.in_transaction ≡ false → HasVersion (state S.Store conn.now).now.schema
+        → IsTrue result }
 {
     conn.is_autocommit() && has_version(conn.schema())
 }
@@ -72,6 +74,12 @@ fn is_of_version<S: Alter>(conn: &mut Connection<S>, version: Version) -> Result
         → (state S.Store conn.old).now.schema ≡ schema_of version
         → IfOk result (λ is_so. MatchBool is_so (IsOfVersion version (state S.Store conn.old).now)
         (¬ IsOfVersion version (state S.Store conn.old).now)) }
+    ensures another { HasCleanDisk (state S.Store conn.new) → IfOk result (λ is_so.
+        is_so ≡ false → ShowsAnother version (state S.Store conn.old) (state S.Store conn.new)) }
+    ensures said { HasCleanDisk (state S.Store conn.new) → IfOk result (λ is_so.
+        is_so ≡ true → NeverSays S.Store version conn.old → ⊥) }
+    ensures fails { HasCleanDisk (state S.Store conn.new) → IfErr result
+        (FailsBy number_query [] (state S.Store conn.old) (state S.Store conn.new)) }
     ensures fault { IfErr result (λ e. (e ≡ NoMemory) ⊎ (e ≡ Store)) }
     ensures stays { Stays (state S.Store conn.old) (state S.Store conn.new) }
 {
@@ -120,7 +128,11 @@ pub fn kept_rows<S: Alter>(
     ensures other { (¬ HasVersion (state S.Store conn.old).now.schema) → result ≡ Err Store }
     ensures foreign { IsOther (state S.Store conn.old).now.schema → IsErr result }
     ensures wrong { HasCleanDisk (state S.Store conn.new) → result ≡ Err WrongVersion
-        → ¬ IsOfVersion version (state S.Store conn.old).now }
+        → ShowsAnother version (state S.Store conn.old) (state S.Store conn.new) }
+    // Any other number is told so, where no transaction is open.
+    ensures told { HasCleanDisk (state S.Store conn.new) → conn.old.in_transaction ≡ false
+        → HasVersion (state S.Store conn.old).now.schema → NeverSays S.Store version conn.old
+        → IsErrAnd result (IsTold (state S.Store conn.old) (state S.Store conn.new)) }
     ensures said { HasCleanDisk (state S.Store conn.new) → result ≡ Err BadRows
         → IsOfVersion version (state S.Store conn.old).now }
     ensures bad { HasCleanDisk (state S.Store conn.new) → result ≡ Err BadRows

@@ -18,13 +18,18 @@ use crate::fault::StoreFault;
 use crate::memory_files::MemoryFile;
 use crate::sql_tables::SqlTables;
 use dq_tables::Tables;
-use sqlite::{Connection, FileStore, Files};
+use sqlite::{Connection, FileStore, Files, MemStore};
 use sqlite_disk::Disk;
 use std::alloc::Global;
 
 /// Tables over files in memory are honest, whatever was asked of them.
 pub fn tables_in_memory_are_honest(_tables: &SqlTables<FileStore<MemoryFile>>)
     ensures { (⟦<SqlTables<FileStore<MemoryFile>> as Tables>⟧.state _tables.now).honest }
+{}
+
+/// So are tables over the kit's own store in memory.
+pub fn tables_over_trees_in_memory_are_honest(_tables: &SqlTables<MemStore>)
+    ensures { (⟦<SqlTables<MemStore> as Tables>⟧.state _tables.now).honest }
 {}
 
 /// A migration leaves each row as it was and where it was, but that an entry is started which a kept

@@ -7,8 +7,10 @@ ghost use Rattle.dq_tables.specs.Sound.{IsSound};
 ghost use Rattle.dq_sql.specs.declared.migrate_fault.MigrateFault.TheVariants.{Store};
 ghost use Rattle.dq_sql.specs.Making.{no_schema};
 ghost use Rattle.dq_sql.specs.Tie.{Stays};
-ghost use Rattle.dq_sql.specs.Adopting.{HasVersion, IsOther};
-ghost use Rattle.dq_sql.specs.Migration.{IsMigrated, Migrates, IsNotTaken, IsNotMigrated};
+ghost use Rattle.dq_sql.specs.Adopting.{HasVersion, NeverSays, IsOther};
+ghost use Rattle.dq_sql.specs.declared.version.Version.TheVariants.{One};
+ghost use Rattle.dq_sql.specs.Filling.{IsNothingYet};
+ghost use Rattle.dq_sql.specs.Migration.{IsMigrated, Migrates, IsNotTaken, IsToldOfOld, IsNotMigrated};
 
 use crate::filling::{fill_store, is_new_store};
 use crate::finding::kept_rows;
@@ -31,6 +33,9 @@ fn rows_migrated<S: Alter>(old: &mut Connection<S>, alloc: Global) -> Result<Vec
         → IsErrAnd result (λ e. e ≡ Store) }
     ensures foreign { IsOther (state S.Store old.old).now.schema → IsErr result }
     ensures refused { IfErr result (IsNotTaken (state S.Store old.old) (state S.Store old.new)) }
+    ensures told { HasCleanDisk (state S.Store old.new) → old.old.in_transaction ≡ false
+        → HasVersion (state S.Store old.old).now.schema → NeverSays S.Store One old.old
+        → IsErrAnd result (IsToldOfOld (state S.Store old.old) (state S.Store old.new)) }
     ensures stays { Stays (state S.Store old.old) (state S.Store old.new) }
 {
     let mut rows = kept_rows(old, alloc, Version::One)?;
@@ -67,6 +72,10 @@ impl<S: Alter + Drop> SqlTables<S> {
         ensures foreign { IsOther (state S.Store old.old).now.schema → IsErr result }
         ensures refused { IfErr result
             (λ e. IsNotTaken (state S.Store old.old) (state S.Store old.new) e.0) }
+        ensures told { HasCleanDisk (state S.Store old.new) → IsNothingYet (state S.Store new)
+            → old.old.in_transaction ≡ false → HasVersion (state S.Store old.old).now.schema
+            → NeverSays S.Store One old.old → IsErrAnd result (λ e.
+            IsToldOfOld (state S.Store old.old) (state S.Store old.new) e.0) }
         ensures unmade { IfErr result (λ e. IsNotMigrated (state S.Store old.old)
             (state S.Store old.new) (state S.Store new) (state S.Store e.1)) }
     {
@@ -105,6 +114,11 @@ impl<S: Alter + Drop> SqlTables<S> {
             × IsNotTaken (state S.Store old) (state S.Store left) e
             × IsNotMigrated (state S.Store old) (state S.Store left) (state S.Store new)
             (state S.Store new_left)) ∥₁) }
+        ensures told { IsNothingYet (state S.Store new) → old.in_transaction ≡ false
+            → HasVersion (state S.Store old).now.schema → NeverSays S.Store One old
+            → IfErr result (λ e. ∥ ((left : Held S) × Stays (state S.Store old) (state S.Store left)
+            × (HasCleanDisk (state S.Store left)
+            → IsToldOfOld (state S.Store old) (state S.Store left) e)) ∥₁) }
     {
         match SqlTables::migrate_lent(alloc, &mut old, new) {
             Ok(tables) => Ok(tables),

@@ -1,5 +1,5 @@
 //! What the tables of a connection hold, read.
-ghost use Rattle.std.specs.Prelude.{◌≡◌, [], None, Some, List, IfOk, OnOk, map, length, take, drop, slice_get};
+ghost use Rattle.std.specs.Prelude.{◌≡◌, [], None, Some, List, IfOk, IfErr, OnOk, map, length, take, drop, slice_get};
 ghost use Rattle.sqlite_value.specs.Order.{Row as Values, column, bytes};
 ghost use Rattle.sqlite_value.specs.declared.value.Value.TheVariants.{Blob};
 ghost use Rattle.sqlite.specs.Values.{bound};
@@ -7,7 +7,8 @@ ghost use Rattle.sqlite.specs.State.{HasCleanDisk, Shown};
 ghost use Rattle.sqlite.specs.Held.{state};
 ghost use Rattle.dq_tables.specs.Finding.{row_at, rows_of, rows_above, waiting_entries};
 ghost use Rattle.dq_sql.specs.Tie.{is_set, Stays};
-ghost use Rattle.dq_sql.specs.Adopting.{IsJudged};
+ghost use Rattle.dq_sql.specs.Adopting.{IsJudged, number_query, FailsBy};
+ghost use Rattle.dq_sql.specs.Opening.{store_fault, of_tables};
 ghost use Rattle.dq_sql.specs.Reading.{ShowsNoWrite, ShowsSame, HoldsOf, Shows, kept_shown, numbers_shown, IsCount, row_shown};
 
 use crate::judgement::Judgement;
@@ -21,7 +22,9 @@ use sqlite::{Alter, Connection, Error, ErrorCode};
 use std::alloc::Global;
 
 /// What an error of the database is to a caller of the tables.
-pub(crate) fn fault_of(error: &Error) -> TableFault {
+pub(crate) fn fault_of(error: &Error) -> TableFault
+    ensures { of_tables result ≡ store_fault error.now }
+{
     match error {
         Error::SqliteFailure(ErrorCode::OutOfMemory) => TableFault::NoMemory,
         _ => TableFault::Store,
@@ -37,6 +40,9 @@ pub(crate) fn answered<S: Alter>(
     ensures shown { HasCleanDisk (state S.Store conn.new) → IfOk result (λ rows.
         Shown query.now (bound params.now) (state S.Store conn.old) (state S.Store conn.new)
         rows.items) }
+    ensures fails { HasCleanDisk (state S.Store conn.new) → IfErr result (λ e.
+        FailsBy query.now (bound params.now) (state S.Store conn.old) (state S.Store conn.new)
+        (of_tables e)) }
     ensures same { ShowsNoWrite query.now → HasCleanDisk (state S.Store conn.new) → OnOk result
         (ShowsSame (state S.Store conn.old) (state S.Store conn.new)) }
     ensures stays { ShowsNoWrite query.now → Stays (state S.Store conn.old) (state S.Store conn.new) }
@@ -406,6 +412,10 @@ pub(crate) fn versions_read<S: Alter>(
 ) -> Result<Vec<sqlite::Row>, TableFault>
     ensures found { HasCleanDisk (state S.Store conn.new) → IfOk result (λ answer.
         (version : _) → Shows version (state S.Store conn.old) numbers_shown answer.items) }
+    ensures shown { HasCleanDisk (state S.Store conn.new) → IfOk result (λ answer.
+        Shown number_query [] (state S.Store conn.old) (state S.Store conn.new) answer.items) }
+    ensures fails { HasCleanDisk (state S.Store conn.new) → IfErr result (λ e.
+        FailsBy number_query [] (state S.Store conn.old) (state S.Store conn.new) (of_tables e)) }
     ensures stays { Stays (state S.Store conn.old) (state S.Store conn.new) }
 {
     answered(conn, "SELECT number FROM version", &[])

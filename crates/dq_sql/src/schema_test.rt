@@ -20,8 +20,10 @@ use sqlite_value::value::Value;
 /// Whether a column has the name and the kind, is strict, and has neither a default nor a collation
 /// of its own.
 fn is_column(column: &Column, name: &[u8], kind: Kind, is_required: bool) -> bool
-    ensures { IsTrue result
+    ensures is { IsTrue result
         → column.now ≡ record (optional name.now kind) { not_null = is_required } }
+    ensures told { column.now ≡ record (optional name.now kind) { not_null = is_required }
+        → IsTrue result }
 {
     column.name.as_slice() == name
         && column.kind == kind
@@ -75,7 +77,8 @@ fn columns_version(columns: &[Column]) -> Option<Version>
 
 /// Whether the columns are those of the table `version`.
 fn are_version_columns(columns: &[Column]) -> bool
-    ensures { IsTrue result → columns.now ≡ version_columns }
+    ensures are { IsTrue result → columns.now ≡ version_columns }
+    ensures told { columns.now ≡ version_columns → IsTrue result }
 {
     let [number] = columns else {
         return false;
@@ -152,7 +155,8 @@ fn are_kind_checks(checks: &Terms) -> bool
 
 /// Whether a table has no key that is the rowid, no references, and no default that reads the time.
 fn has_no_more(table: &Table) -> bool
-    ensures { IsTrue result → HasNoMore table.now }
+    ensures has { IsTrue result → HasNoMore table.now }
+    ensures told { HasNoMore table.now → IsTrue result }
 {
     table.key.is_none()
         && table.references.as_slice().is_empty()
@@ -203,7 +207,8 @@ fn kept_version(table: &Table) -> Option<Version>
 
 /// Whether a table has neither a primary key, nor what is unique, nor tests.
 fn has_no_rules(table: &Table) -> bool
-    ensures { IsTrue result → HasNoRules table.now }
+    ensures has { IsTrue result → HasNoRules table.now }
+    ensures told { HasNoRules table.now → IsTrue result }
 {
     table.primary.as_slice().is_empty()
         && table.uniques.as_slice().is_empty()
@@ -214,7 +219,8 @@ fn has_no_rules(table: &Table) -> bool
 /// Whether a table is `version`, in whatever tree.
 #[tactic(auto, using(crate::proofs::SchemaTest::version_at))]
 fn is_version_table(table: &Table) -> bool
-    ensures { IsTrue result → table.now ≡ record version_table { tree = table.now.tree } }
+    ensures is { IsTrue result → table.now ≡ record version_table { tree = table.now.tree } }
+    ensures told { table.now ≡ record version_table { tree = table.now.tree } → IsTrue result }
 {
     table.name.as_slice() == b"version".as_slice()
         && are_version_columns(table.columns.as_slice())
@@ -224,7 +230,8 @@ fn is_version_table(table: &Table) -> bool
 
 /// Whether a store has the table `version`, in whatever tree.
 pub(crate) fn has_version(schema: &Schema) -> bool
-    ensures { IsTrue result → HasVersion schema.now }
+    ensures has { IsTrue result → HasVersion schema.now }
+    ensures told { HasVersion schema.now → IsTrue result }
 {
     for table in schema.tables.as_slice() {
         if is_version_table(table) {

@@ -14,7 +14,7 @@ fn feed_zeros(alloc: Global, sieve: &mut Sieve, length: u32) -> Result<(), Alloc
 }
 
 /// What is kept of a Patient's Name in Implicit, of which so many octets are missing.
-fn sifted_name(alloc: Global, length: u32, missing: u32) -> Result<Sifted, AllocError> {
+pub(super) fn sifted_name(alloc: Global, length: u32, missing: u32) -> Result<Sifted, AllocError> {
     let mut sieve = Sieve::new(alloc, Syntax::Implicit, &KEPT_ATTRIBUTES);
     sieve.feed(b"\x10\0\x10\0")?;
     sieve.feed(&length.to_le_bytes())?;

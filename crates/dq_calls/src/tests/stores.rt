@@ -1,8 +1,9 @@
 //! C-STORE over rows in memory, of what no capture is long enough for.
 ghost use Rattle.std.specs.Prelude.{◌≡◌, IfOk};
 
+use super::sieves::sifted_name;
 use dq_config::{Config, Institution};
-use dq_dataset::{Sifted, Syntax};
+use dq_dataset::{KEPT_LIMIT, Sifted, Syntax};
 use dq_dimse::{Body, Command, Message, command_field, status};
 use dq_list::Listed;
 use dq_store::store;
@@ -12,7 +13,7 @@ use std::test::*;
 
 const CT: &[u8] = b"1.2.840.10008.5.1.4.1.1.2";
 
-/// A request to store an instance of whose data set this is left.
+/// A request to store the instance 1.2.9, of whose data set this is left.
 fn request(alloc: Global, body: Body, over: bool) -> Result<Message, AllocError>
     ensures { IfOk result (λ message. message.command.code ≡ 1) }
 {
@@ -54,6 +55,24 @@ fn what_is_sent_has_a_limit(rt: HostRuntime) -> Result<(), Fail> {
         let message = request(rt.alloc(), body, over)?;
         let stored = stored(rt.alloc(), demo, &message)?;
         assert!(rt; stored == (status::OUT_OF_RESOURCES, 0));
+    }
+    Ok(())
+}
+
+/// A name alone is as long as all that may be kept, so that the data set is too large. Where its last
+/// octet is missing, it cannot be read.
+#[test]
+fn a_large_data_set_that_is_cut_off_is_unreadable(rt: HostRuntime) -> Result<(), Fail> {
+    let config = Config::built_in(rt.alloc())?;
+    let demo = config.institution(b"DEMO").ok_or("DEMO")?;
+    for (missing, status) in [
+        (0, status::OUT_OF_RESOURCES),
+        (1, status::CANNOT_UNDERSTAND),
+    ] {
+        let left = sifted_name(rt.alloc(), KEPT_LIMIT, missing)?;
+        let message = request(rt.alloc(), Body::Sifted(left), false)?;
+        let stored = stored(rt.alloc(), demo, &message)?;
+        assert!(rt; stored == (status, 0), "{missing} octets are missing");
     }
     Ok(())
 }

@@ -10,7 +10,7 @@ use Rattle.dq_tables.specs.declared.row.Row.{Row}
 use Rattle.dq_config.specs.Limits.{Limits, limits_of}
 use Rattle.dq_tables.specs.Rows.{Record, Edit, of, after_all, edited_all, IsRising}
 use Rattle.dq_core.specs.Shared.{World, turn, world_after_turn, replies_from, first_world, replies, world_after, operations_next, rows_within}
-use Rattle.dq_core.specs.Alone.{AloneWorld, alone_turn, alone_after_turn, alone_replies_from, alone_world_from, alone_opening, alone_replies, alone_after}
+use Rattle.dq_core.specs.Alone.{AloneWorld, alone_turn, alone_after_turn, alone_replies_from, alone_world_from, alone_opening, alone_replies, alone_after, changes_next, records_within}
 use Rattle.dq_core.specs.Own.{owns, is_own_event, own, replies_at}
 use Rattle.dq_core.specs.Isolation.{own_among, Begins, Agree, IsPrefix}
 use Rattle.dq_core.proofs.isolation.Streams.{AddsInputs}
@@ -18,21 +18,6 @@ use Rattle.dq_core.proofs.isolation.Isolating.{Lenses, Configured, alike}
 use Rattle.dq_core.proofs.isolation.Others.{other, rising-all, own-rows, other-rows, take-map, all-take}
 use Rattle.dq_core.proofs.isolation.Isolated.{Are, After, is_mine, are-after}
 use Rattle.dq_core.proofs.isolation.Named.{configured}
-
--- the changes that the next event makes, where it passes a test
-abbrev pub changes_next : Limits → AloneWorld → (Event → Bool) → List Event → List (List Edit)
-changes_next limits world mine [] = []
-changes_next limits world mine (e ∷ events) =
-    if mine e then (alone_turn limits world e).changes else []
-
--- The records after those among the first events of a history that pass a test, and, where the next
--- event passes it, the first changes of that.
-abbrev pub records_within : Limits → List Record → (Event → Bool) → List Event → ℕ → ℕ
-    → List Record
-records_within limits records mine events answered changes =
-    let world = alone_after limits records (filter mine (take answered events)) in
-    let next = changes_next limits world mine (drop answered events) in
-    edited_all (take changes next) world.records
 
 -- the replies of the device to the own events among the first
 abbrev pub among_replies : List Institution → List Row → List Event → Institution → ℕ → List Reply

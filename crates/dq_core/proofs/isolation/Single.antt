@@ -23,7 +23,7 @@ use Rattle.dq_core.specs.Answers.{request_in}
 use Rattle.dq_core.specs.Owners.{is_sound_request, owner_by, owner, is_institution}
 use Rattle.dq_core.specs.Histories.{is_above, rises_from}
 use Rattle.dq_core.specs.Shared.{World, turn, world_after_turn, replies_from, world_from, first_world, replies, world_after, rows_within}
-use Rattle.dq_core.specs.Alone.{alone_turn, alone_replies, alone_after}
+use Rattle.dq_core.specs.Alone.{alone_turn, alone_replies, alone_after, changes_next, records_within}
 use Rattle.dq_core.specs.Own.{octets_of_pieces, stream_of, owns, is_on, is_own_event, own, replies_at}
 use Rattle.dq_core.specs.Isolation.{own_among, replies_alone, world_alone, own_replies, own_operations, own_rows_within, Begins, IsPrefix}
 use Rattle.dq_core.proofs.isolation.Lists.{at-number}
@@ -31,7 +31,7 @@ use Rattle.dq_core.proofs.isolation.Streams.{AddsInputs}
 use Rattle.dq_core.proofs.isolation.Isolating.{Lenses, is_of-some}
 use Rattle.dq_core.proofs.isolation.Named.{in-at, contains-in, owned-contained}
 use Rattle.dq_core.proofs.isolation.Rising.{both-true}
-use Rattle.dq_core.proofs.isolation.Promise.{changes_next, records_within, among_replies, replies-front, take-nil, isolated-replies, isolated-records, isolated-among, isolated-within}
+use Rattle.dq_core.proofs.isolation.Promise.{among_replies, replies-front, take-nil, isolated-replies, isolated-records, isolated-among, isolated-within}
 
 -- ---- filters
 

@@ -1,7 +1,8 @@
 use Rattle.std.proofs.Common.{sym, subst}
 use Rattle.sqlite.specs.Held.{state}
 use Rattle.dq_sql.specs.Reading.{Shows, numbers_shown}
-use Rattle.dq_sql.proofs.Sounding.{version_told}
+use Rattle.dq_sql.specs.Adopting.{SaysNumber}
+use Rattle.dq_sql.proofs.Sounding.{version_told, untold}
 use Rattle.dq_sql.proofs.finding.is_of_version.Goals as goal
 
 pub returns-clause-told : goal.returns-clause-told
@@ -10,3 +11,10 @@ returns-clause-told g c clean ours =
     let version = c.args.version in
     version_told version old c.as_slice.result.now ours
     (subst (Shows version old numbers_shown) (sym c.as_slice.ensures.value) (c.in_ok-found.ensures.found clean version)) c.says_number.result c.says_number.ensures
+
+pub returns-clause-another : goal.returns-clause-another
+returns-clause-another g c clean not_so = record {
+  numbers = c.in_ok-found.found.items;
+  shown = c.in_ok-found.ensures.shown clean;
+  other = subst (λ l. ¬ SaysNumber c.args.version l) c.as_slice.ensures.value (untold _ c.says_number.result not_so c.says_number.ensures);
+}

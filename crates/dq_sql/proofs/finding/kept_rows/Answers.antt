@@ -4,12 +4,9 @@ use Rattle.sqlite.specs.Held.{state}
 use Rattle.dq_tables.specs.Sound.{IsSound}
 use Rattle.dq_sql.specs.Tie.{IsOfVersion}
 use Rattle.dq_sql.specs.Adopting.{HoldOctets, IsShaped, AreSound, IsFound}
-use Rattle.dq_sql.proofs.Sounding.{not_version, found_after, found_sound, sound_after, ok_then, told}
+use Rattle.dq_sql.proofs.Sounding.{found_after, found_sound, sound_after, ok_then, told}
 use Rattle.dq_sql.proofs.Judgements.{rows_rise}
 use Rattle.dq_sql.proofs.finding.kept_rows.Goals as goal
-
-pub returns-then-ne-clause-wrong : goal.returns-then-ne-clause-wrong
-returns-then-ne-clause-wrong g c clean same = not_version c.in-Some.shaped c.args.version (state g.S.Store c.args.conn.now) c.in-Some.ensures.shaped (search rules)
 
 pub sound_rows-requires : goal.sound_rows-requires
 sound_rows-requires g c =

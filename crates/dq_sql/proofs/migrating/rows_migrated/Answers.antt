@@ -2,7 +2,7 @@ use Rattle.std.proofs.Common.{Err, inl, refl, ap}
 use Rattle.sqlite.specs.Held.{state}
 use Rattle.dq_sql.specs.declared.migrate_fault.MigrateFault.TheVariants.{NoMemory}
 use Rattle.dq_sql.specs.Migration.{IsNotTaken}
-use Rattle.dq_sql.proofs.Migrated.{by_fault, not_blamed, told_by}
+use Rattle.dq_sql.proofs.Migrated.{by_fault, not_blamed, told_by, told_of_old}
 use Rattle.dq_sql.proofs.migrating.rows_migrated.Goals as goal
 
 pub returns-in_err-rows-clause-refused : goal.returns-in_err-rows-clause-refused
@@ -29,3 +29,8 @@ returns-clause-migrated g c clean = record {
 
 pub returns-clause-sound : goal.returns-clause-sound
 returns-clause-sound g c = c.in_ok-start_named.ensures.sound
+
+pub returns-in_err-rows-clause-told : goal.returns-in_err-rows-clause-told
+returns-in_err-rows-clause-told g c clean rest there never =
+    told_of_old (state g.S.Store c.args.old.now) (state g.S.Store c.kept_rows.new.conn) c.from_residual.result c.in_err-rows.field-0.0 c.from_residual.ensures.1
+    (c.in_err-rows.ensures.told clean rest there never)

@@ -3,7 +3,8 @@ use Rattle.sqlite.specs.State.{HasCleanDisk}
 use Rattle.sqlite.specs.Held.{state}
 use Rattle.dq_sql.specs.Keeping.{MayLeave}
 use Rattle.dq_sql.specs.Kept.{one_list}
-use Rattle.dq_sql.proofs.Adopted.{found_keeps, found_settled}
+use Rattle.dq_sql.specs.declared.version.Version.TheVariants.{Two}
+use Rattle.dq_sql.proofs.Adopted.{found_keeps, found_settled, another_is_not}
 use Rattle.dq_sql.proofs.Restarted.{found_again}
 use Rattle.dq_sql.proofs.sql_tables.SqlTables.adopt_lent.Goals as goal
 
@@ -36,9 +37,12 @@ returns-in-Ok-clause-again g c rows it clean =
 pub returns-in-Err-clause-welcome : goal.returns-in-Err-clause-welcome
 returns-in-Err-clause-welcome g c rows it clean =
     let has = found_again (state g.S.Store c.args.conn) rows c.kept_rows.ensures.live it in
-    (λ is. c.in-Err.ensures.wrong clean (ap Err is) has.version_is, λ is. c.in-Err.ensures.bad clean (ap Err is) rows has it.sound)
+    (λ is. another_is_not Two _ _ (c.in-Err.ensures.wrong clean (ap Err is)) has.version_is, λ is. c.in-Err.ensures.bad clean (ap Err is) rows has it.sound)
 
 pub returns-in-Ok-clause-honest : goal.returns-in-Ok-clause-honest
 returns-in-Ok-clause-honest g c clean =
     let early : HasCleanDisk (state g.S.Store c.kept_rows.new.conn) = subst (λ h. HasCleanDisk (state g.S.Store h)) c.over-in-Ok.ensures.conn clean in
     omega (arith, c.kept_rows.ensures.stays.survives.clean)
+
+pub returns-in-Err-clause-told : goal.returns-in-Err-clause-told
+returns-in-Err-clause-told g c rest there never clean = c.in-Err.ensures.told clean rest there never

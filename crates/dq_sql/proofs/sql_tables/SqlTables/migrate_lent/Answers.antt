@@ -32,3 +32,9 @@ returns-in-Err-fill_store-clause-unmade g c =
     not_filled old (state g.S.Store c.rows_migrated.new.old) (state g.S.Store c.args.new) (state g.S.Store c.fill_store.new.conn) c.as_slice.result.now
     (λ clean. subst (IsMigrated old) (sym c.as_slice.ensures.value) (c.in-Ok.ensures.migrated clean))
     c.fill_store.ensures.survives c.fill_store.ensures.mode c.in-Err-fill_store.ensures.same
+
+pub returns-in-Err-clause-told : goal.returns-in-Err-clause-told
+returns-in-Err-clause-told g c clean nothing rest there never = c.in-Err.ensures.told clean rest there never
+
+pub returns-in-Err-fill_store-clause-other : goal.returns-in-Err-fill_store-clause-other
+returns-in-Err-fill_store-clause-other g c none = absurd (c.in-Ok.ensures.other none)
