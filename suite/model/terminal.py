@@ -37,6 +37,7 @@ GIVEN = {
         dump2dcm --write-xfer-little bin/image image.dcm""",
     "OPERATING.md": "cp suite/configurations/hospitals.toml . && python3 suite/model/version_1.py rows.db",
 }
+GIVEN["CONNECT.md"] = GIVEN["README.md"]
 
 
 def blocks_of(text):
