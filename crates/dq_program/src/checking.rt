@@ -12,10 +12,10 @@ ghost use Rattle.dq_program.specs.Program.{AreHonest, IsConfigured, RefusesCheck
 ghost use Rattle.dq_program.specs.Checks.{route_line, limit_text, limits_text, institution_lines, check_text, counted_lines, counted_check_text, IsListed, EndsList, IsChecked, StopsCheck};
 
 use crate::placing::line_of_fault;
-use crate::reporting::put_whole;
+use crate::reporting::{CountsRows, Kept, put_line, put_whole};
 use crate::stop::{Misfit, Stop};
 use crate::stores::Stores;
-use dq_captures::{CountsRows, Folder, Kept, Sink, Unread, put_report_line};
+use dq_captures::{Folder, Sink, Unread};
 use dq_config::{Config, ConfigFault, Institution, Route};
 use dq_core::Fault;
 use dq_tables::Tables;
@@ -147,7 +147,7 @@ fn put_counted<C: CountsRows>(
     ensures fails { IfErr result (C.fails counts.old counts.new) }
 {
     put_institution(alloc, text, institution)?;
-    put_report_line(alloc, text, counts, institution.name.as_slice())
+    put_line(alloc, text, counts, institution.name.as_slice())
 }
 
 /// The lines of institutions, each with that of its rows.

@@ -13,10 +13,11 @@ ghost use Rattle.dq_program.specs.Serving.{Attended, IsConsoleStop};
 
 use crate::backup::{Backups, Copying};
 use crate::caller::{Caller, Next};
+use crate::reporting::{CountsRows, lines_of};
 use crate::searching::{Subject, search_in, tell_search};
 use crate::stop::Stop;
 use crate::stores::Uncopied;
-use dq_captures::{CountsRows, event_of, lines_of, printed_line};
+use dq_captures::{event_of, printed_line};
 use dq_core::laws::looks_are_one_look;
 use dq_core::{Event, Fault};
 use dq_list::Listed;

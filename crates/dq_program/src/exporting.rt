@@ -10,9 +10,10 @@ ghost use Rattle.dq_program.specs.Program.{AreHonest, Breaks, EndsTask};
 ghost use Rattle.dq_program.specs.Searching.{json_line, json_lines};
 ghost use Rattle.dq_program.specs.Exports.{kind_named, kinds_asked, data_sets_of, exported, exported_of, export_text, CutsLines, IsExported, StopsExport};
 
+use crate::reporting::KINDS;
 use crate::stop::Stop;
 use crate::stores::Stores;
-use dq_captures::{KINDS, Sink};
+use dq_captures::Sink;
 use dq_core::Fault;
 use dq_json::json_of;
 use dq_list::Listed;

@@ -1,17 +1,18 @@
 //! What the program does: it replays a history, or reports what is kept after it.
-ghost use Rattle.std.specs.Prelude.{[], IsTrue, OnOk};
+ghost use Rattle.std.specs.Prelude.{◌≡◌, ◌++◌, [], IsTrue, IfOk, OnOk};
 ghost use Rattle.std.specs.Io.KnownBytes.{Appends};
 ghost use Rattle.dq_core.specs.Histories.{is_well_formed_history};
 ghost use Rattle.dq_core.specs.Shared.{replies, world_after};
 ghost use Rattle.dq_captures.specs.Printing.{reply_lines};
-ghost use Rattle.dq_captures.specs.Reports.{names_of, report_text};
+ghost use Rattle.dq_captures.specs.Reports.{kind_word, names_of, report_line, report_text};
 
 use crate::stop::Stop;
-use dq_captures::{Kept, Sink, lines_of, names_of, print_replies};
-use dq_config::Config;
+use dq_captures::{Sink, print_replies};
+use dq_config::{Config, Institution};
 use dq_core::{Event, Outcome, run};
-use dq_tables::PlainTables;
-use std::alloc::Global;
+use dq_list::Listed;
+use dq_tables::{Kind, PlainTables, Tables};
+use std::alloc::{AllocError, Global};
 
 /// What is done with a history.
 #[derive(Clone, Copy, Debug, PartialEq, Eq)]
@@ -85,6 +86,72 @@ pub(crate) fn replay<W: Sink>(
     }
 }
 
+/// Every kind of rows, in the order of a report.
+static KINDS: [Kind; 5] = [
+    Kind::Study,
+    Kind::Series,
+    Kind::Image,
+    Kind::Entry,
+    Kind::Step,
+];
+
+fn kind_word(kind: Kind) -> &'static str
+    ensures { result.now ≡ kind_word kind }
+{
+    match kind {
+        Kind::Study => "studies",
+        Kind::Series => "series",
+        Kind::Image => "images",
+        Kind::Entry => "entries",
+        Kind::Step => "steps",
+    }
+}
+
+/// Adds the line of an institution.
+fn put_line<T: Tables>(
+    alloc: Global,
+    text: &mut Vec<u8>,
+    tables: &mut T,
+    name: &[u8],
+) -> Result<(), Stop>
+    ensures line { ((some : T) → (T.state some).honest) → OnOk result (text.new.items
+        ≡ text.old.items ++ report_line (T.state tables.old).rows name.now) }
+    ensures rows { ((some : T) → (T.state some).honest) → OnOk result
+        ((T.state tables.new).rows ≡ (T.state tables.old).rows) }
+{
+    text.extend_from_slice(name)?;
+    for kind in &KINDS {
+        let count = tables.count(*kind, name)?;
+        let told = format!(in alloc; " {} {count}", kind_word(*kind))?;
+        text.extend_from_slice(told.as_bytes())?;
+    }
+    text.push(b'\n')?;
+    Ok(())
+}
+
+/// Returns the lines of a report.
+fn lines_of<T: Tables>(alloc: Global, tables: &mut T, names: &[Listed<u8>]) -> Result<Vec<u8>, Stop>
+    ensures { ((some : T) → (T.state some).honest) → IfOk result (λ text. text.items
+        ≡ report_text (T.state tables.old).rows names.now) }
+{
+    let mut text = Vec::new(alloc);
+    for name in names {
+        put_line(alloc, &mut text, tables, name.as_slice())?;
+    }
+    Ok(text)
+}
+
+/// Returns the names of institutions, in their order.
+fn names_of(alloc: Global, institutions: &[Institution]) -> Result<Vec<Listed<u8>>, AllocError>
+    ensures { IfOk result (λ names. names.items ≡ names_of institutions.now) }
+{
+    let mut names = Vec::new(alloc);
+    for institution in institutions {
+        names.push(Listed::copy_of(alloc, institution.name.as_slice())?)?;
+    }
+    Ok(names)
+}
+
 /// Plays a history over rows in memory, of which there are none at first, and prints for each
 /// institution how many rows it has then. Nothing is printed if a fault came.
 pub(crate) fn report<W: Sink>(
@@ -101,12 +168,12 @@ pub(crate) fn report<W: Sink>(
     let Outcome {
         replies: _,
         fault,
-        tables,
+        mut tables,
     } = run(alloc, config, PlainTables::new(alloc), events)?;
     if let Some(fault) = fault {
         return Err(Stop::from(fault));
     }
-    let text = lines_of(alloc, &mut Kept { tables }, names.as_slice())?;
+    let text = lines_of(alloc, &mut tables, names.as_slice())?;
     if output.put(text.as_slice()).is_err() || output.finish().is_err() {
         return Err(Stop::Output);
     }

@@ -1,15 +1,16 @@
 use Rattle.std.proofs.Common.{◌≡◌, ◌<◌, ◌+◌, ℕ, List, [], ◌∷◌, ◌++◌, length, get_or, take, sym, ap, ◌∙◌}
-use Rattle.std.proofs.lemmas.List.{take_more, flat_map_more}
+use Rattle.std.proofs.lemmas.List.{take_more}
 use Rattle.dq_tables.specs.declared.row.Row.{Row}
+use Rattle.dq_wires.proofs.Rounding.{flat_map-more}
 use Rattle.dq_captures.specs.Reports.{report_line, report_text}
-use Rattle.dq_captures.proofs.reporting.lines_of.Goals as goal
+use Rattle.dq_program.proofs.reporting.lines_of.Goals as goal
 
 another_line : (rows : List Row) (names : List (List ℕ)) (at : ℕ) (name text longer : List ℕ) → at < length names → name ≡ get_or names at name
     → text ≡ report_text rows (take at names) → longer ≡ text ++ report_line rows name → longer ≡ report_text rows (take (at + 1) names)
 another_line rows names at name text longer within is before added =
     added
     ∙ ap (λ (t : List ℕ). t ++ report_line rows name) before
-    ∙ flat_map_more (report_line rows) [] (take at names) name
+    ∙ sym (flat_map-more (report_line rows) (take at names) name)
     ∙ ap (λ (some : List (List ℕ)). report_text rows some) (ap (λ (n : List ℕ). take at names ++ n ∷ []) is ∙ sym (take_more names at name within))
 
 pub loop-name-preserved : goal.loop-name-preserved

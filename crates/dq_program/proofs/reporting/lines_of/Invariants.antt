@@ -1,6 +1,6 @@
 use Rattle.std.proofs.Common.{◌≡◌, take}
 use Rattle.dq_captures.specs.Reports.{report_text}
-use Rattle.dq_captures.proofs.reporting.lines_of.Given as goal
+use Rattle.dq_program.proofs.reporting.lines_of.Given as goal
 
 abbrev pub invariant-loop-name : goal.invariant-loop-name
 invariant-loop-name g l = record {

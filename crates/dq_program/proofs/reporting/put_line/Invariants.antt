@@ -1,7 +1,7 @@
 use Rattle.std.proofs.Common.{◌≡◌, ◌++◌, take}
 use Rattle.std.specs.List.{flat_map}
 use Rattle.dq_captures.specs.Reports.{every_kind, count_text}
-use Rattle.dq_captures.proofs.reporting.put_line.Given as goal
+use Rattle.dq_program.proofs.reporting.put_line.Given as goal
 
 abbrev pub invariant-loop-kind : goal.invariant-loop-kind
 invariant-loop-kind g l = record {
