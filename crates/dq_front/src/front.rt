@@ -351,6 +351,9 @@ impl<W: Wires + Drop> Wires for Front<W> {
 
     ghost log = { λ _. None };
 
+    // No accept fails.
+    ghost failed_accepts = { λ _. 0 };
+
     // The connection whose request has waited longest, unless one is asked already.
     fn accept(&mut self) -> Result<Option<usize>, WireFault> {
         if self.visitors.iter().any(|visitor| visitor.is_called) {

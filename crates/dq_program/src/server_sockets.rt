@@ -1,6 +1,6 @@
 //! The sockets of the program: those of associations, with their log, and those of callers.
 ghost use Rattle.std.specs.Prelude.{◌≡◌, ◌≤◌, length, IfOk};
-ghost use Rattle.dq_wires.specs.Logs.{IfGot};
+ghost use Rattle.dq_wires.specs.Logs.{IfGot, failures_after_accept};
 
 use dq_assoc::Service;
 use dq_captures::Host;
@@ -226,9 +226,11 @@ impl CallerSockets {
 }
 
 impl Wires for CallerSockets {
-    ghost use Rattle.std.specs.Prelude.{None};
+    ghost use Rattle.std.specs.Prelude.{None, option_map, unwrap_or};
 
     ghost log = { λ _. None };
+
+    ghost failed_accepts = { λ sockets. unwrap_or (option_map (⟦<SocketWires as Wires>⟧.failed_accepts) sockets.console) 0 };
 
     fn accept(&mut self) -> Result<Option<usize>, WireFault> {
         if let Some(front) = &mut self.front {
@@ -291,8 +293,14 @@ impl Wires for CallerSockets {
 
 impl Wires for ServerSockets {
     ghost use Rattle.std.specs.Prelude.{None};
+    ghost use Rattle.dq_program.specs.declared.server_sockets.ServerSockets.TheVariants.{Associations, Callers};
 
     ghost log = { λ _. None };
+
+    ghost failed_accepts = { λ sockets. elim sockets [
+      | Associations it ↦ ⟦<SocketWires as Wires>⟧.failed_accepts it.logged.wires
+      | Callers it ↦ ⟦<CallerSockets as Wires>⟧.failed_accepts it
+    ] };
 
     fn accept(&mut self) -> Result<Option<usize>, WireFault> {
         match self {

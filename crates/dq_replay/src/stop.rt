@@ -3,7 +3,7 @@ use dq_captures::{CaptureFault, Unread};
 use dq_config::ConfigFault;
 use dq_core::Fault;
 use dq_tables::TableFault;
-use std::alloc::AllocError;
+use std::alloc::{AllocError, AllocFailed};
 use std::io;
 use thiserror::Error;
 
@@ -56,6 +56,12 @@ impl Stop {
 
 impl From<AllocError> for Stop {
     fn from(_error: AllocError) -> Stop {
+        Stop::from(Fault::NoMemory)
+    }
+}
+
+impl<T: Drop> From<AllocFailed<T>> for Stop {
+    fn from(_error: AllocFailed<T>) -> Stop {
         Stop::from(Fault::NoMemory)
     }
 }

@@ -1,5 +1,5 @@
 -- What wires tell of the calls that they were asked for.
-use Rattle.std.specs.Prelude.{◌≡◌, ℕ, List, [], ◌∷◌, ◌++◌, take, Option, Some, None, Result, Ok, Err}
+use Rattle.std.specs.Prelude.{◌≡◌, ◌+◌, ◌-◌, ◌^◌, min, ℕ, List, [], ◌∷◌, ◌++◌, take, Option, Some, None, Result, Ok, Err}
 use Rattle.dq_wires.specs.declared.calls.WireFault.{WireFault}
 use Rattle.dq_wires.specs.declared.calls.ReadTurn.{ReadTurn}
 use Rattle.dq_wires.specs.declared.calls.ReadTurn.TheVariants as turn
@@ -30,3 +30,12 @@ IfGot (Ok (turn.Got count)) P = P count
 IfGot (Ok turn.Nothing) P = Unit {0}
 IfGot (Ok turn.Ended) P = Unit {0}
 IfGot (Err fault) P = Unit {0}
+
+-- One failed accept more, as far as a `u64` counts.
+abbrev pub one_more_failure : ℕ → ℕ
+one_more_failure count = min (count + 1) (2 ^ 64 - 1)
+
+-- the count of failed accepts after one more accept
+abbrev pub failures_after_accept : ℕ → Result (Option ℕ) WireFault → ℕ
+failures_after_accept count (Ok came) = count
+failures_after_accept count (Err fault) = one_more_failure count

@@ -1,5 +1,5 @@
 -- What contracts see of a turner.
-use Rattle.std.specs.Prelude.{◌≡◌, ◌+◌, ℕ, IsTrue, List, [], ◌∷◌, ◌++◌, Option, Some, None, IfSome}
+use Rattle.std.specs.Prelude.{◌≡◌, ◌+◌, ℕ, IsTrue, List, [], ◌∷◌, ◌++◌, Option, Some, None, IfSome, Result, Ok, Err}
 use Rattle.dq_core.specs.declared.event.Event.{Event}
 use Rattle.dq_core.specs.declared.event.Event.TheVariants.{Open, Piece, End, Pull, Schedule, Withdraw}
 use Rattle.dq_core.specs.Histories.{is_above}
@@ -7,6 +7,8 @@ use Rattle.dq_core.specs.Standing.{Standing}
 use Rattle.dq_wires.specs.declared.calls.Call.{Call}
 use Rattle.dq_wires.specs.declared.calls.Call.TheVariants.{Accept}
 use Rattle.dq_wires.specs.declared.fault.TurnFault.{TurnFault}
+use Rattle.dq_wires.specs.declared.fault.TurnFault.TheVariants.{NoMemory, Server, Network}
+use Rattle.dq_wires.specs.Logs.{one_more_failure}
 use Rattle.dq_wires.specs.Turns.{Hold, accept_failure}
 
 -- Its server, the connections that are held, and the fault that stopped it.
@@ -37,3 +39,10 @@ first_fault (Some earlier) fault = earlier
 abbrev pub EndsUnaccepted : Option (List Call) → Type 0
 EndsUnaccepted log = IfSome log (λ calls.
     (earlier : List Call) × (calls ≡ earlier ++ Accept accept_failure ∷ []))
+
+-- The count of failed accepts after turns: one more where no connection could be accepted.
+abbrev pub failures_after_turns : ℕ → Result (Unit {0}) TurnFault → ℕ
+failures_after_turns count (Ok done) = count
+failures_after_turns count (Err NoMemory) = count
+failures_after_turns count (Err (Server fault)) = count
+failures_after_turns count (Err Network) = one_more_failure count

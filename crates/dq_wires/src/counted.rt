@@ -25,6 +25,8 @@ impl<W> CountedWires<W> {
 impl<W: Wires> Wires for CountedWires<W> {
     ghost log = { λ counted. W.log counted.wires };
 
+    ghost failed_accepts = { λ counted. W.failed_accepts counted.wires };
+
     fn accept(&mut self) -> Result<Option<usize>, WireFault> {
         self.wires.accept()
     }

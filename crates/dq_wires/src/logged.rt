@@ -30,6 +30,8 @@ impl<W, L: Write + Drop> LoggedWires<W, L> {
 impl<W: Wires + GivesUp, L: Write + Drop> Wires for LoggedWires<W, L> {
     ghost log = { λ logged. W.log logged.wires };
 
+    ghost failed_accepts = { λ logged. W.failed_accepts logged.wires };
+
     fn accept(&mut self) -> Result<Option<usize>, WireFault> {
         let answer = self.wires.accept();
         if let Some(log) = &mut self.log {

@@ -56,6 +56,7 @@ pub struct MemoryWires {
     alloc: Global,
     script: Script,
     calls: Option<Vec<Call>>,
+    failed_accepts: u64,
 }
 
 impl MemoryWires {
@@ -70,6 +71,7 @@ impl MemoryWires {
             alloc,
             script,
             calls: Some(Vec::new(alloc)),
+            failed_accepts: 0,
         }
     }
 
@@ -86,6 +88,7 @@ impl MemoryWires {
     fn tell(&mut self, call: Result<Call, AllocError>)
         ensures told { (it : Call) → IfOk call (λ call. call ≡ it) →
             Logs (calls_so_far self.old) (calls_so_far self.new) it }
+        ensures failed { self.new.failed_accepts ≡ self.old.failed_accepts }
     {
         let is_told = match (&mut self.calls, call) {
             (Some(calls), Ok(call)) => calls.push(call).is_ok(),
@@ -135,8 +138,13 @@ impl Wires for MemoryWires {
 
     ghost log = { calls_so_far };
 
+    ghost failed_accepts = { λ wires. wires.failed_accepts };
+
     fn accept(&mut self) -> Result<Option<usize>, WireFault> {
         let answer = self.script.accepts.pop_front().unwrap_or(Ok(None));
+        if answer.is_err() {
+            self.failed_accepts = self.failed_accepts.saturating_add(1);
+        }
         self.tell(Ok(Call::Accept(answer)));
         answer
     }

@@ -4,6 +4,7 @@ ghost use Rattle.dq_core.specs.Histories.{is_above};
 ghost use Rattle.dq_wires.specs.Limits.{most_read};
 ghost use Rattle.dq_wires.specs.Stepping.{Moves, Fails};
 ghost use Rattle.dq_wires.specs.Turns.{has_room_for_wire, TurnsWent, TurnsCut};
+ghost use Rattle.dq_wires.specs.Turners.{failures_after_turns};
 ghost use Rattle.dq_wires.specs.Rounds.{hold_in, RoundWent, RoundCut, TakingWent, TurnWent, TurnCut};
 
 use crate::calls::WireFault;
@@ -31,6 +32,7 @@ fn turn_held<T: Tables, W: Wires>(
     ensures cut { IfErr result (RoundCut (Moves T.state)
         (Fails T.state) (W.log wires.old) (W.log wires.new) server.old server.new
         held.old.items) }
+    ensures failed { W.failed_accepts wires.new ≡ W.failed_accepts wires.old }
     ensures newest { OnOk result (server.new.newest ≡ server.old.newest) }
 {
     let mut at = 0;
@@ -72,6 +74,8 @@ impl HeldWires {
             (W.log wires.new) server.old server.new (hold_in self.old) (hold_in self.new)) }
         ensures cut { IfErr result (TurnCut (Moves T.state) (Fails T.state) (W.log wires.old)
             (W.log wires.new) server.old server.new (hold_in self.old)) }
+        ensures failed { W.failed_accepts wires.new
+            ≡ failures_after_turns (W.failed_accepts wires.old) result }
         ensures opens { OnOk result (IsTrue (is_above server.new.newest (self.new.newest + 1))) }
         ensures buffer { OnOk result (self.new.buffer ≡ self.old.buffer) }
     {
@@ -102,6 +106,8 @@ impl HeldWires {
             (W.log wires.new) server.old server.new (hold_in self.old) (hold_in self.new)) }
         ensures cut { IfErr result (TurnCut (Moves T.state) (Fails T.state) (W.log wires.old)
             (W.log wires.new) server.old server.new (hold_in self.old)) }
+        ensures failed { W.failed_accepts wires.new
+            ≡ failures_after_turns (W.failed_accepts wires.old) result }
         ensures opens { OnOk result (IsTrue (is_above server.new.newest (self.new.newest + 1))) }
     {
         self.buffer.resize(READ_MOST, 0)?;
@@ -123,6 +129,8 @@ impl HeldWires {
             turns) }
         ensures cut { IfErr result (TurnsCut (Moves T.state) (Fails T.state) (W.log wires.old)
             (W.log wires.new) server.old server.new (hold_in self.old) turns) }
+        ensures failed { W.failed_accepts wires.new
+            ≡ failures_after_turns (W.failed_accepts wires.old) result }
         ensures opens { OnOk result (IsTrue (is_above server.new.newest (self.new.newest + 1))) }
     {
         for _turn in 0..turns {

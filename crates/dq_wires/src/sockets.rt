@@ -1,4 +1,6 @@
 //! Wires over sockets.
+ghost use Rattle.std.specs.Prelude.{◌≡◌};
+
 use crate::calls::{ReadTurn, WireFault};
 use crate::given_up::{GivenUp, GivesUp, Limits, Reason};
 use crate::limits::MOST_WIRES;
@@ -51,6 +53,8 @@ pub struct SocketWires {
     limits: Limits,
     turned_away: Option<GivenUp>,
     rested: Option<Instant>,
+    /// How many accepts have failed, as far as a `u64` counts.
+    failed_accepts: u64,
 }
 
 /// The reads between two rests: since when, and whether connections were passed over in them or in
@@ -96,6 +100,7 @@ impl SocketWires {
             limits: Limits::default(),
             turned_away: None,
             rested: None,
+            failed_accepts: 0,
         })
     }
 
@@ -205,7 +210,9 @@ impl SocketWires {
     }
 
     // Whether reads have taken long since the first one after a rest.
-    fn is_long(&mut self) -> bool {
+    fn is_long(&mut self) -> bool
+        ensures { self.new.failed_accepts ≡ self.old.failed_accepts }
+    {
         let Ok(now) = Instant::now(&self.clock) else {
             return false;
         };
@@ -217,7 +224,9 @@ impl SocketWires {
     // Whether a connection that can be read, and comes from another machine, leaves its read to one of
     // the same titles: to one that was passed over more often, and where reads have taken long also to
     // one that was read.
-    fn gives_way(&mut self, place: usize) -> bool {
+    fn gives_way(&mut self, place: usize) -> bool
+        ensures { self.new.failed_accepts ≡ self.old.failed_accepts }
+    {
         match self.lines.get(place) {
             Some(Some(line)) if line.is_waiting() && line.peer().is_some() => {}
             _ => return false,
@@ -267,12 +276,9 @@ impl SocketWires {
     }
 
     // Holds a connection at a place, unless its peer is gone.
-    fn hold(
-        &mut self,
-        place: usize,
-        mut socket: Socket,
-        peer: Option<SocketAddr>,
-    ) -> Option<usize> {
+    fn hold(&mut self, place: usize, mut socket: Socket, peer: Option<SocketAddr>) -> Option<usize>
+        ensures { self.new.failed_accepts ≡ self.old.failed_accepts }
+    {
         socket.register(self.poll.registry(), Token(place)).ok()?;
         let slot = self.lines.get_mut(place)?;
         *slot = Some(Line::new(socket, peer));
@@ -301,6 +307,8 @@ impl Wires for SocketWires {
 
     ghost log = { λ _. None };
 
+    ghost failed_accepts = { λ sockets. sockets.failed_accepts };
+
     fn accept(&mut self) -> Result<Option<usize>, WireFault> {
         self.turned_away = None;
         if !self.is_called {
@@ -322,6 +330,7 @@ impl Wires for SocketWires {
                 if error.kind() == ErrorKind::WouldBlock {
                     self.is_called = false;
                 } else if !is_passing(&error) {
+                    self.failed_accepts = self.failed_accepts.saturating_add(1);
                     return Err(WireFault);
                 }
                 Ok(None)

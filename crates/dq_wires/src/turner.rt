@@ -8,7 +8,7 @@ ghost use Rattle.dq_tables.specs.Finding.{rows_of};
 ghost use Rattle.dq_wires.specs.Stepping.{Stepped, Moves, Fails};
 ghost use Rattle.dq_wires.specs.Held.{wire_with};
 ghost use Rattle.dq_wires.specs.Turns.{TurnsWent, TurnsCut};
-ghost use Rattle.dq_wires.specs.Turners.{IsOrder, first_fault, EndsUnaccepted};
+ghost use Rattle.dq_wires.specs.Turners.{IsOrder, first_fault, EndsUnaccepted, failures_after_turns};
 
 use crate::fault::TurnFault;
 use crate::rounds::HeldWires;
@@ -265,6 +265,10 @@ pub fn turn_all<T: Tables, W: Wires>(
     // No connection can be accepted any more only where an accept failed.
     ensures network { turner.old.fault ≡ None → result ≡ Err TurnFault.Network →
         EndsUnaccepted (W.log wires.new) }
+    // One accept failed where no connection can be accepted any more, and none otherwise. The count
+    // of failed accepts shows it, also over wires that tell no calls.
+    ensures failed { turner.old.fault ≡ None → W.failed_accepts wires.new
+        ≡ failures_after_turns (W.failed_accepts wires.old) result }
     // After a fault nothing is done.
     ensures stopped { IfSome turner.old.fault (λ fault. result ≡ Err fault) }
     ensures unchanged { IfSome turner.old.fault (λ _. turner.new ≡ turner.old) }

@@ -29,6 +29,7 @@ fn leave<T: Tables, W: Wires>(
     ensures stops { IfErr result (StopsBy (Fails T.state) server.old server.new
         (Some (End wire.now.number))) }
     ensures kept { OnErr result (wires.new ≡ wires.old) }
+    ensures failed { W.failed_accepts wires.new ≡ W.failed_accepts wires.old }
     ensures newest { OnOk result (server.new.newest ≡ server.old.newest) }
 {
     step_event(server, Event::End(wire.number()))?;
@@ -84,6 +85,7 @@ fn send<T: Tables, W: Wires>(
         (W.log wires.new) server.old server.new wire.old wire.new) }
     ensures off { IfErr result (WentOff (Fails T.state) (W.log wires.old)
         (W.log wires.new) server.old server.new wire.old) }
+    ensures failed { W.failed_accepts wires.new ≡ W.failed_accepts wires.old }
     ensures newest { OnOk result (server.new.newest ≡ server.old.newest) }
 {
     match wires.write(wire.place(), wire.unsent()) {
@@ -117,6 +119,7 @@ fn receive<T: Tables, W: Wires>(
         (W.log wires.new) server.old server.new wire.old wire.new) }
     ensures off { IfErr result (WentOff (Fails T.state) (W.log wires.old)
         (W.log wires.new) server.old server.new wire.old) }
+    ensures failed { W.failed_accepts wires.new ≡ W.failed_accepts wires.old }
     ensures newest { OnOk result (server.new.newest ≡ server.old.newest) }
 {
     match wires.read(wire.place(), buffer) {
@@ -154,6 +157,7 @@ pub(crate) fn turn_wire<T: Tables, W: Wires>(
         (W.log wires.new) server.old server.new wire.old wire.new) }
     ensures off { IfErr result (WentOff (Fails T.state) (W.log wires.old)
         (W.log wires.new) server.old server.new wire.old) }
+    ensures failed { W.failed_accepts wires.new ≡ W.failed_accepts wires.old }
     ensures newest { OnOk result (server.new.newest ≡ server.old.newest) }
 {
     if wire.is_sending() {

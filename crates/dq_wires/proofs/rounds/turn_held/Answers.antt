@@ -6,7 +6,7 @@ use Rattle.dq_wires.proofs.Doing.{handed-on}
 use Rattle.dq_wires.proofs.rounds.turn_held.Goals as goal
 
 pub loop-at-init : goal.loop-at-init
-loop-at-init g c = record { so = round-begins _ _ _; newest = refl }
+loop-at-init g c = record { so = round-begins _ _ _; newest = refl; failed = refl }
 
 pub loop-at-preserved : goal.loop-at-preserved
 loop-at-preserved g c =
@@ -14,6 +14,7 @@ loop-at-preserved g c =
     record {
       so = rw c.remove.ensures.items (round-dropped c.loop-at.invariant.so within _ c.index_mut.ensures.value c.if-branch.false c.in_ok-turn_wire.ensures.went);
       newest = c.in_ok-turn_wire.ensures.newest ∙ c.loop-at.invariant.newest;
+      failed = c.turn_wire.ensures.failed ∙ c.loop-at.invariant.failed;
     }
 
 pub loop-at-preserved-then-branch : goal.loop-at-preserved-then-branch
@@ -22,6 +23,7 @@ loop-at-preserved-then-branch g c =
     record {
       so = round-kept c.loop-at.invariant.so within _ c.index_mut.ensures.value c.if-branch.true c.in_ok-turn_wire.ensures.went;
       newest = c.in_ok-turn_wire.ensures.newest ∙ c.loop-at.invariant.newest;
+      failed = c.turn_wire.ensures.failed ∙ c.loop-at.invariant.failed;
     }
 
 pub returns-clause-went : goal.returns-clause-went

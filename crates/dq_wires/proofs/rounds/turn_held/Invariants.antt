@@ -8,6 +8,7 @@ invariant-loop-at g l = record {
   so : RoundSo (Moves g.T.Tables.state) (g.W.Wires.log l.fn.wires) (g.W.Wires.log l.wires) l.fn.server l.server
       l.fn.held.items l.held.items l.at;
   newest : l.server.newest ≡ l.fn.server.newest;
+  failed : g.W.Wires.failed_accepts l.wires ≡ g.W.Wires.failed_accepts l.fn.wires;
 }
 
 abbrev pub decreases-loop-at : goal.decreases-loop-at

@@ -1,4 +1,4 @@
-use Rattle.std.proofs.Common.{◌+◌, IsTrue}
+use Rattle.std.proofs.Common.{◌≡◌, ◌+◌, IsTrue}
 use Rattle.dq_core.specs.Histories.{is_above}
 use Rattle.dq_wires.specs.Stepping.{Moves}
 use Rattle.dq_wires.specs.Rounds.{hold_in}
@@ -10,4 +10,5 @@ invariant-loop-turn g l = record {
   went : TurnsWent (Moves g.T.Tables.state) (g.W.Wires.log l.fn.wires) (g.W.Wires.log l.wires) l.fn.server l.server
       (hold_in l.fn.self) (hold_in l.self) l._turn;
   opens : IsTrue (is_above l.server.newest (l.self.newest + 1));
+  failed : g.W.Wires.failed_accepts l.wires ≡ g.W.Wires.failed_accepts l.fn.wires;
 }
