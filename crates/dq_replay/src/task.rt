@@ -1,10 +1,11 @@
 //! What the program does: it replays a history, or reports what is kept after it.
-ghost use Rattle.std.specs.Prelude.{◌≡◌, ◌++◌, [], IsTrue, IfOk, OnOk};
+ghost use Rattle.std.specs.Prelude.{◌≡◌, ◌++◌, [], codes, IsTrue, IfOk, OnOk, string_bytes};
+ghost use Rattle.std.specs.Fmt.{decimal};
 ghost use Rattle.std.specs.Io.KnownBytes.{Appends};
 ghost use Rattle.dq_core.specs.Histories.{is_well_formed_history};
 ghost use Rattle.dq_core.specs.Shared.{replies, world_after};
 ghost use Rattle.dq_captures.specs.Printing.{reply_lines};
-ghost use Rattle.dq_captures.specs.Reports.{kind_word, names_of, report_line, report_text};
+ghost use Rattle.dq_captures.specs.Reports.{kind_word, count_text, names_of, report_line, report_text};
 
 use crate::stop::Stop;
 use dq_captures::{Sink, print_replies};
@@ -107,32 +108,56 @@ fn kind_word(kind: Kind) -> &'static str
     }
 }
 
-/// Adds the line of an institution.
-fn put_line<T: Tables>(
+/// Returns a count of rows of a kind, after the word for them.
+fn count_text(alloc: Global, kind: Kind, count: u64) -> Result<String, AllocError>
+    ensures { IfOk result (λ text. string_bytes text
+        ≡ codes " " ++ kind_word kind ++ codes " " ++ decimal count) }
+{
+    format!(in alloc; " {} {count}", kind_word(kind))
+}
+
+/// Adds how many rows of a kind an institution has.
+fn put_count(
     alloc: Global,
     text: &mut Vec<u8>,
-    tables: &mut T,
+    tables: &mut PlainTables,
+    name: &[u8],
+    kind: Kind,
+) -> Result<(), Stop>
+    ensures count { OnOk result (text.new.items
+        ≡ text.old.items ++ count_text (⟦<PlainTables as Tables>⟧.state tables.old).rows name.now kind) }
+    ensures rows { OnOk result
+        ((⟦<PlainTables as Tables>⟧.state tables.new).rows ≡ (⟦<PlainTables as Tables>⟧.state tables.old).rows) }
+{
+    let count = tables.count(kind, name)?;
+    text.extend_from_slice(count_text(alloc, kind, count)?.as_bytes())?;
+    Ok(())
+}
+
+/// Adds the line of an institution.
+fn put_line(
+    alloc: Global,
+    text: &mut Vec<u8>,
+    tables: &mut PlainTables,
     name: &[u8],
 ) -> Result<(), Stop>
-    ensures line { ((some : T) → (T.state some).honest) → OnOk result (text.new.items
-        ≡ text.old.items ++ report_line (T.state tables.old).rows name.now) }
-    ensures rows { ((some : T) → (T.state some).honest) → OnOk result
-        ((T.state tables.new).rows ≡ (T.state tables.old).rows) }
+    ensures line { OnOk result (text.new.items
+        ≡ text.old.items ++ report_line (⟦<PlainTables as Tables>⟧.state tables.old).rows name.now) }
+    ensures rows { OnOk result
+        ((⟦<PlainTables as Tables>⟧.state tables.new).rows ≡ (⟦<PlainTables as Tables>⟧.state tables.old).rows) }
 {
     text.extend_from_slice(name)?;
     for kind in &KINDS {
-        let count = tables.count(*kind, name)?;
-        let told = format!(in alloc; " {} {count}", kind_word(*kind))?;
-        text.extend_from_slice(told.as_bytes())?;
+        put_count(alloc, text, tables, name, *kind)?;
     }
     text.push(b'\n')?;
     Ok(())
 }
 
 /// Returns the lines of a report.
-fn lines_of<T: Tables>(alloc: Global, tables: &mut T, names: &[Listed<u8>]) -> Result<Vec<u8>, Stop>
-    ensures { ((some : T) → (T.state some).honest) → IfOk result (λ text. text.items
-        ≡ report_text (T.state tables.old).rows names.now) }
+fn lines_of(alloc: Global, tables: &mut PlainTables, names: &[Listed<u8>]) -> Result<Vec<u8>, Stop>
+    ensures { IfOk result (λ text. text.items
+        ≡ report_text (⟦<PlainTables as Tables>⟧.state tables.old).rows names.now) }
 {
     let mut text = Vec::new(alloc);
     for name in names {
