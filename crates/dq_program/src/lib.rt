@@ -29,5 +29,5 @@ pub use dq_captures::{
     CaptureFault, Folder, Host, PrintFault, Sink, Source, Unread, print_replies, read_capture,
 };
 pub use network::{Entrance, Listening, Logging, Network, Unheard};
-pub use program::{perform, unworded};
+pub use program::{perform, play_on, unworded};
 pub use stores::{Stores, Unclosed, Uncopied, Unkept};

@@ -217,6 +217,18 @@ pub fn perform<Rt: AllocGlobal + Folder + Stores + Network, S: AsStr, R: Source,
     }
 }
 
+/// Runs the program as `perform` does. It says nothing of it, so that the proof of who calls it for one
+/// machine does not read what `perform` says of any.
+pub fn play_on<Rt: AllocGlobal + Folder + Stores + Network, S: AsStr, R: Source, W: Sink, E: Sink>(
+    rt: &Rt,
+    words: &[S],
+    input: R,
+    output: &mut W,
+    errors: &mut E,
+) -> u8 {
+    perform(rt, words, input, output, errors)
+}
+
 /// Tells why the words of the command line cannot be read: one of them is not UTF-8, or memory ran
 /// out. Returns the exit status.
 pub fn unworded<E: Sink>(error: &io::Error, errors: &mut E) -> u8

@@ -1,45 +1,31 @@
 //! A DICOM server, over captures and over sockets: events in, the octets of its answers out.
 #![tactic(auto)]
 
-mod file_rows;
-pub mod laws;
 mod machine;
-mod memory;
 
-use dq_program::{Folder, Network, Sink, Source, Stores, perform, unworded};
+use dq_keepers::FilesAt;
+use dq_program::{Sink, Source, play_on, unworded};
 use machine::Machine;
+use sqlite::Wary;
 use std::env;
 use std::io::{self, BufWriter, Write};
 use std::process::ExitCode;
 
-/// Plays the program over whatever it runs on. It is a function of its own so that the check of `play`
-/// does not carry what `perform` says of the machine's two keepers of rows.
-fn performed<Rt: AllocGlobal + Folder + Stores + Network, R: Source, W: Sink, E: Sink>(
-    rt: &Rt,
-    words: &[String],
-    input: R,
-    output: &mut W,
-    errors: &mut E,
-) -> u8 {
-    perform(rt, words, input, output, errors)
-}
-
-/// Plays the program on the machine. It is a function of its own so that the check of `play` does not
-/// carry the machine's keepers of rows.
-fn performed_on<R: Source, W: Sink, E: Sink>(
+/// Plays the program on the machine, whatever the files of a store hold.
+fn play_over<S: FilesAt, R: Source, W: Sink, E: Sink>(
     rt: &HostRuntime,
     words: &[String],
     input: R,
     output: &mut W,
     errors: &mut E,
 ) -> u8 {
-    performed(&Machine { rt }, words, input, output, errors)
+    play_on(&Machine::<S>::new(rt), words, input, output, errors)
 }
 
 fn play<E: Write>(rt: &HostRuntime, errors: &mut E) -> io::Result<u8> {
     let words: Vec<String> = env::args(rt)?.skip(1).collect(rt.alloc())?;
     let mut output = BufWriter::new(rt.alloc(), io::writer(rt))?;
-    Ok(performed_on(rt, words.as_slice(), rt.reader(), &mut output, errors))
+    Ok(play_over::<Wary, _, _, _>(rt, words.as_slice(), rt.reader(), &mut output, errors))
 }
 
 fn main(rt: HostRuntime) -> ExitCode {

@@ -1,0 +1,3 @@
+mod Closed
+mod Found
+mod InMemory
