@@ -3,29 +3,28 @@
 
 mod machine;
 
-use dq_keepers::FilesAt;
 use dq_program::{Sink, Source, play_on, unworded};
 use machine::Machine;
-use sqlite::Wary;
 use std::env;
 use std::io::{self, BufWriter, Write};
 use std::process::ExitCode;
 
-/// Plays the program on the machine, whatever the files of a store hold.
-fn play_over<S: FilesAt, R: Source, W: Sink, E: Sink>(
+/// Plays the program on the machine. It is a function of its own so that the check of `play` does not
+/// carry the machine's keepers of rows.
+fn play_here<R: Source, W: Sink, E: Sink>(
     rt: &HostRuntime,
     words: &[String],
     input: R,
     output: &mut W,
     errors: &mut E,
 ) -> u8 {
-    play_on(&Machine::<S>::new(rt), words, input, output, errors)
+    play_on(&Machine { rt }, words, input, output, errors)
 }
 
 fn play<E: Write>(rt: &HostRuntime, errors: &mut E) -> io::Result<u8> {
     let words: Vec<String> = env::args(rt)?.skip(1).collect(rt.alloc())?;
     let mut output = BufWriter::new(rt.alloc(), io::writer(rt))?;
-    Ok(play_over::<Wary, _, _, _>(rt, words.as_slice(), rt.reader(), &mut output, errors))
+    Ok(play_here(rt, words.as_slice(), rt.reader(), &mut output, errors))
 }
 
 fn main(rt: HostRuntime) -> ExitCode {
