@@ -1,3 +1,0 @@
-mod Closed
-mod Found
-mod InMemory
