@@ -141,7 +141,7 @@ impl Counts {
                 self.add(image);
             }
             Change::EntryAdded(row) => self.add(row),
-            Change::EntryRemoved { inst, key: _ } => self.take(Kind::Entry, inst.as_slice()),
+            Change::EntryRemoved(inst, _) => self.take(Kind::Entry, inst.as_slice()),
             Change::StepAdded(row, _) => self.add(row),
             Change::StepChanged(_) => {}
         }

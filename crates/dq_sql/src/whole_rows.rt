@@ -36,7 +36,7 @@ fn institution_of(change: &Change) -> &[u8]
             image,
         } => image.inst.as_slice(),
         Change::EntryAdded(row) => row.inst.as_slice(),
-        Change::EntryRemoved { inst, key: _ } => inst.as_slice(),
+        Change::EntryRemoved(inst, _) => inst.as_slice(),
         Change::StepAdded(row, _) => row.inst.as_slice(),
         Change::StepChanged(row) => row.inst.as_slice(),
     }
@@ -63,7 +63,7 @@ fn is_spared(kind: Kind, change: &Change) -> bool
             image,
         } => is_spared_by(kind, study) && is_spared_by(kind, series) && image.kind != kind,
         Change::EntryAdded(row) => row.kind != kind,
-        Change::EntryRemoved { inst: _, key: _ } => kind != Kind::Entry,
+        Change::EntryRemoved(_, _) => kind != Kind::Entry,
         Change::StepAdded(row, _) => row.kind != kind && kind != Kind::Entry,
         Change::StepChanged(row) => row.kind != kind,
     }

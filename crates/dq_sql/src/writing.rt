@@ -296,7 +296,7 @@ fn make<S: Alter>(
             image,
         } => put_stored(tx, alloc, study, series, image),
         Change::EntryAdded(row) => put(tx, alloc, row),
-        Change::EntryRemoved { inst, key } => {
+        Change::EntryRemoved(inst, key) => {
             remove(tx, Kind::Entry, inst.as_slice(), key.as_slice())
         }
         Change::StepAdded(row, keys) => put_step(tx, alloc, row, keys.as_slice()),

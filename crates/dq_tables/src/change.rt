@@ -12,10 +12,7 @@ pub enum Change {
     },
     EntryAdded(Row),
     /// The entry of the institution with the key.
-    EntryRemoved {
-        inst: Listed<u8>,
-        key: Listed<u8>,
-    },
+    EntryRemoved(Listed<u8>, Listed<u8>),
     /// The step, and the keys of the entries of its institution that it starts.
     StepAdded(Row, Listed<Listed<u8>>),
     /// The row takes the place of that with its key.

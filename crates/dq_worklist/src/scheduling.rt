@@ -140,9 +140,7 @@ fn decide_withdrawal<T: Tables>(
     if !archive.has(Kind::Entry, id)? {
         return Ok(refused(Refusal::NoSuchEntry));
     }
-    let change = Change::EntryRemoved {
-        inst: Listed::copy_of(archive.alloc, archive.institution.name.as_slice())?,
-        key: Listed::copy_of(archive.alloc, id)?,
-    };
-    Ok(Decision::with_change(None, change))
+    let inst = Listed::copy_of(archive.alloc, archive.institution.name.as_slice())?;
+    let key = Listed::copy_of(archive.alloc, id)?;
+    Ok(Decision::with_change(None, Change::EntryRemoved(inst, key)))
 }
