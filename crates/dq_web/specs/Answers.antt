@@ -1,8 +1,8 @@
 -- How what the console told becomes a response.
-use Rattle.std.specs.Prelude.{◌≡◌, ◌≢◌, ◌⊎◌, ℕ, ◌==◌, ◌++◌, Bool, true, false, IsUtf8, IsTrue, if◌then◌else◌, List, [], map, codes}
+use Rattle.std.specs.Prelude.{◌≡◌, ◌≢◌, ◌⊎◌, ℕ, ◌==◌, ◌++◌, ◌||◌, Bool, true, false, IsUtf8, IsTrue, if◌then◌else◌, List, [], length, map, codes}
 use Rattle.std.specs.Char.{is_ascii_digit}
 use Rattle.std.specs.Fmt.{decimal}
-use Rattle.std.specs.List.{list_all}
+use Rattle.std.specs.List.{list_all, starts_with}
 use Rattle.std.specs.Str.{bytes_eq}
 use Rattle.std.specs.Str.Lines.{lines}
 use Rattle.dq_list.specs.Among.{IsAmong}
@@ -16,8 +16,9 @@ use Rattle.dq_web.specs.declared.answering.TheConstants.{STUDIES, SERIES, IMAGES
 use Rattle.dq_web.specs.declared.page.TheConstants.{INDEX, STYLE, SCRIPT}
 use Rattle.dq_web.specs.declared.replies.Reply.{Reply}
 use Rattle.dq_web.specs.declared.replies.Kind.TheVariants as kind
+use Rattle.dq_web.specs.declared.status.Status.{Status}
 use Rattle.dq_web.specs.declared.status.Status.TheVariants as status
-use Rattle.dq_web.specs.Responses.{is_success, response_text}
+use Rattle.dq_web.specs.Responses.{response_text}
 
 -- the order is done
 abbrev pub is_done : List ℕ → Bool
@@ -35,14 +36,75 @@ abbrev pub HasNoAnswers : List ℕ → Type 0
 HasNoAnswers told = (IsUtf8 told → ⊥)
     ⊎ ((front number : List ℕ) → told ≢ front ++ (codes "\nend " ++ number))
 
+-- a code that means: the row is there already, or there is no store to copy (RFC 9110 section 15.5.10)
+abbrev pub is_conflict : List ℕ → Bool
+is_conflict code =
+    bytes_eq code (codes "3") || (bytes_eq code (codes "taken") || bytes_eq code (codes "no store"))
+
+-- a code that means: there is no room (RFC 4918 section 11.5)
+abbrev pub is_full : List ℕ → Bool
+is_full code = bytes_eq code (codes "4") || bytes_eq code (codes "full")
+
+-- a code that means: there is no such row, or no such institution (RFC 9110 section 15.5.5)
+abbrev pub is_missing : List ℕ → Bool
+is_missing code = bytes_eq code (codes "5") || bytes_eq code (codes "6")
+
+-- a code that means: the request is bad (RFC 9110 section 15.5.1). The status of a search that failed has
+-- four digits (PS3.4 section C.4.1.1.4).
+abbrev pub is_bad : List ℕ → Bool
+is_bad code = bytes_eq code (codes "1") || (bytes_eq code (codes "2")
+    || (bytes_eq code (codes "request") || (starts_with ◌==◌ code (codes "keyword ") || (length code == 4))))
+
+-- the status of a code by which the console refuses an order or a search
+abbrev pub code_status : List ℕ → Status
+code_status code = if is_conflict code then status.Conflict
+    else if is_full code then status.Full
+    else if is_missing code then status.NotFound
+    else if bytes_eq code (codes "A700") then status.TooLarge
+    else if bytes_eq code (codes "memory") then status.Unavailable
+    else if is_bad code then status.BadRequest
+    else status.ServerError
+
+-- the console refuses for no code that it tells
+abbrev pub HasNoCode : List ℕ → Type 0
+HasNoCode told = (IsUtf8 told → ⊥)
+    ⊎ ((code : List ℕ) → told ≢ codes "refused " ++ (code ++ codes "\n"))
+
+-- the code behind `refused`, `request` of a bad line, and else `server`
+abbrev pub IsCode : List ℕ → List ℕ → Type 0
+IsCode told code = (told ≡ codes "refused " ++ (code ++ codes "\n"))
+    ⊎ (((told ≡ codes "bad line\n") × (code ≡ codes "request"))
+    ⊎ (HasNoCode told × (told ≢ codes "bad line\n") × (code ≡ codes "server")))
+
+-- the response where the console told no answer has the status of its code
+abbrev pub IsRefusedReply : List ℕ → Reply → Type 0
+IsRefusedReply told reply =
+    (code : List ℕ) × IsCode told code × (reply.status ≡ code_status code)
+
+-- no answer is found
+abbrev pub is_empty_answer : List ℕ → Bool
+is_empty_answer told = bytes_eq told (codes "end 0\n")
+
 -- The response to a search: the array of the answers, in their order, where there are some; no content
--- where none is found; and else no success (PS3.18 section 10.6.3).
+-- where none is found; and else the status of the refusal (PS3.18 section 10.6.3).
 abbrev pub IsAnswersReply : List ℕ → Reply → Type 0
 IsAnswersReply told reply =
-    ((told ≡ codes "end 0\n") × (reply.status ≡ status.NoContent) × (reply.body ≡ []))
+    (IsTrue (is_empty_answer told) × (reply.status ≡ status.NoContent) × (reply.body ≡ []))
     ⊎ (((front : List ℕ) × SplitsAnswers told front × (reply.status ≡ status.Done)
     × (reply.kind ≡ kind.DicomJson) × (reply.body ≡ codes "[" ++ map comma_for front ++ codes "]"))
-    ⊎ (HasNoAnswers told × (is_success reply.status ≡ false)))
+    ⊎ ((is_empty_answer told ≡ false) × HasNoAnswers told × IsRefusedReply told reply))
+
+-- the status of an order that is done (RFC 9110 sections 15.3.1, 15.3.2 and 15.3.5)
+abbrev pub done_status : Form → Status
+done_status form.Scheduled = status.Created
+done_status form.Withdrawn = status.NoContent
+done_status other = status.Done
+
+-- The response to an order: done, without content, or the status of the refusal
+abbrev pub IsOrderReply : Form → List ℕ → Reply → Type 0
+IsOrderReply form told reply =
+    (IsTrue (is_done told) × (reply.status ≡ done_status form) × (reply.body ≡ []))
+    ⊎ ((is_done told ≡ false) × IsRefusedReply told reply)
 
 -- a number in decimal digits
 abbrev pub IsNumber : List ℕ → Type 0
@@ -90,21 +152,21 @@ counts_text counts institution =
     study_counts_text counts institution ++ step_counts_text counts institution
 
 -- The response with what an institution keeps: the counts of its own line beside its own limits, and
--- else no success. Nothing of another line enters it.
+-- else the status of the refusal. Nothing of another line enters it.
 abbrev pub IsCountsReply : List ℕ → List ℕ → Reply → Type 0
 IsCountsReply name told reply =
     ((line : List ℕ) × (counts : Counts) × (institution : Institution)
     × IsOwnLine told name line × AreCounts line counts × (bytes_eq institution.name name ≡ true)
     × (reply.status ≡ status.Done) × (reply.body ≡ counts_text counts institution))
-    ⊎ (is_success reply.status ≡ false)
+    ⊎ IsRefusedReply told reply
 
 -- the response to a question of a form about a name
 abbrev pub IsReplyTo : Form → List ℕ → List ℕ → Reply → Type 0
 IsReplyTo form.Answers name told reply = IsAnswersReply told reply
 IsReplyTo form.Counts name told reply = IsCountsReply name told reply
-IsReplyTo form.Scheduled name told reply = is_success reply.status ≡ is_done told
-IsReplyTo form.Withdrawn name told reply = is_success reply.status ≡ is_done told
-IsReplyTo form.BackedUp name told reply = is_success reply.status ≡ is_done told
+IsReplyTo form.Scheduled name told reply = IsOrderReply form.Scheduled told reply
+IsReplyTo form.Withdrawn name told reply = IsOrderReply form.Withdrawn told reply
+IsReplyTo form.BackedUp name told reply = IsOrderReply form.BackedUp told reply
 IsReplyTo form.Metrics name told reply = Unit {0}
 
 -- the octets of a response of which this holds, the last one of its connection if that is said

@@ -2,6 +2,8 @@
 use Rattle.std.specs.Prelude.{ℕ, ◌++◌, Bool, true, false, if◌then◌else◌, List, [], length, codes}
 use Rattle.std.specs.Fmt.{decimal}
 use Rattle.dq_web.specs.declared.refusal.Allowed.TheVariants as allowed
+use Rattle.dq_web.specs.declared.refusal.Refusal.{Refusal}
+use Rattle.dq_web.specs.declared.refusal.Refusal.TheVariants as refusal
 use Rattle.dq_web.specs.declared.replies.Kind.{Kind}
 use Rattle.dq_web.specs.declared.replies.Kind.TheVariants as kind
 use Rattle.dq_web.specs.declared.replies.Reply.{Reply}
@@ -27,12 +29,18 @@ status_line NotImplemented = codes "501 Not Implemented"
 status_line Unavailable = codes "503 Service Unavailable"
 status_line Full = codes "507 Insufficient Storage"
 
--- 200, 201 and 204
-abbrev pub is_success : Status → Bool
-is_success Done = true
-is_success Created = true
-is_success NoContent = true
-is_success status = false
+-- the status of a refusal of the front (RFC 9110 section 15.5)
+abbrev pub refusal_status : Refusal → Status
+refusal_status refusal.Request = BadRequest
+refusal_status refusal.Head = HeadTooLarge
+refusal_status refusal.Length = TooLarge
+refusal_status refusal.Coding = NotImplemented
+refusal_status refusal.Host = Misdirected
+refusal_status refusal.Origin = Forbidden
+refusal_status refusal.Path = NotFound
+refusal_status (refusal.Method methods) = MethodNotAllowed methods
+refusal_status refusal.Key = Unauthorized
+refusal_status refusal.Unsupported = NotImplemented
 
 abbrev pub content_type : Kind → List ℕ
 content_type kind.Page = codes "text/html; charset=utf-8"

@@ -1,12 +1,12 @@
 //! Responses: what the console told, and what the front answers by itself.
-ghost use Rattle.std.specs.Prelude.{◌≡◌, ◌++◌, false, true, codes, map, IfOk, OnOk, IfSome, MatchOption, ℕ, List};
+ghost use Rattle.std.specs.Prelude.{◌≡◌, ◌≢◌, ◌++◌, true, codes, map, IfOk, OnOk, IfSome, MatchOption, ℕ, List};
 ghost use Rattle.std.specs.Str.{bytes_eq};
 ghost use Rattle.std.specs.Char.{is_ascii_digit};
 ghost use Rattle.std.specs.List.{list_all};
-ghost use Rattle.dq_web.specs.Responses.{is_success, response_text};
-ghost use Rattle.dq_web.specs.Answers.{comma_for, is_done, SplitsAnswers, HasNoAnswers, IsAnswersReply, IsNumber, AreCounts, IsNumberBehind, IsOwnLine, limit_text, study_counts_text, step_counts_text, counts_text, IsCountsReply, IsReplyTo, IsResponse, IsDocument};
+ghost use Rattle.dq_web.specs.Responses.{refusal_status, response_text};
+ghost use Rattle.dq_web.specs.Answers.{comma_for, is_done, done_status, is_conflict, is_full, is_missing, is_bad, code_status, IsCode, IsRefusedReply, is_empty_answer, IsOrderReply, SplitsAnswers, HasNoAnswers, IsAnswersReply, IsNumber, AreCounts, IsNumberBehind, IsOwnLine, limit_text, study_counts_text, step_counts_text, counts_text, IsCountsReply, IsReplyTo, IsResponse, IsDocument};
 
-use crate::asking::{Document, Form, Question};
+use crate::asking::{Document, Form, Question, begins};
 use crate::counters::Counters;
 use crate::keys::at_space;
 use crate::metrics::metrics_text;
@@ -71,71 +71,103 @@ fn refused_reply(alloc: Global, status: Status, code: &str) -> Result<Reply, All
     Ok(reply_of(status, Kind::Json, body))
 }
 
+/// What stands behind a word at the front of a text, and before a line feed at its end.
+fn between<'a>(text: &'a str, word: &str) -> Option<&'a str>
+    ensures { MatchOption result ((code : List ℕ) → text.now ≢ word.now ++ (code ++ codes "\n"))
+        (λ code. text.now ≡ word.now ++ (code.now ++ codes "\n")) }
+{
+    match text.strip_prefix(word) {
+        Some(rest) => rest.strip_suffix("\n"),
+        None => None,
+    }
+}
+
 /// The code of what the console told: what stands behind `refused`, or why it told no answer.
-fn code_in(told: &[u8]) -> &str {
+fn code_in(told: &[u8]) -> &str
+    ensures { IsCode told.now result.now }
+{
+    if told == b"bad line\n".as_slice() {
+        return "request";
+    }
     let Ok(text) = str::from_utf8(told) else {
         return "server";
     };
-    let line = match text.strip_suffix('\n') {
-        Some(line) => line,
-        None => text,
-    };
-    if line == "bad line" {
-        return "request";
-    }
-    match behind(line, "refused ") {
+    match between(text, "refused ") {
         Some(code) => code,
         None => "server",
     }
 }
 
-/// The status of a code that is not one of the few.
-fn other_status(code: &str) -> Status
-    ensures { is_success result ≡ false }
+fn is_text(code: &str, text: &str) -> bool
+    ensures { result ≡ bytes_eq code.now text.now }
 {
-    if code.starts_with("keyword ") {
-        return Status::BadRequest;
-    }
-    if code.len() == 4 {
+    code == text
+}
+
+/// Whether a code says that a row is there already, or that there is no store to copy.
+fn is_conflict(code: &str) -> bool
+    ensures { result ≡ is_conflict code.now }
+{
+    is_text(code, "3") || is_text(code, "taken") || is_text(code, "no store")
+}
+
+/// Whether a code says that there is no room.
+fn is_full(code: &str) -> bool
+    ensures { result ≡ is_full code.now }
+{
+    is_text(code, "4") || is_text(code, "full")
+}
+
+/// Whether a code says that there is no such row, or no such institution.
+fn is_missing(code: &str) -> bool
+    ensures { result ≡ is_missing code.now }
+{
+    is_text(code, "5") || is_text(code, "6")
+}
+
+/// Whether a code says that the request is bad.
+fn is_bad(code: &str) -> bool
+    ensures { result ≡ is_bad code.now }
+{
+    is_text(code, "1")
+        || is_text(code, "2")
+        || is_text(code, "request")
+        || begins(code, "keyword ")
+        || code.len() == 4
+}
+
+/// The status of a code.
+fn code_status(code: &str) -> Status
+    ensures { result ≡ code_status code.now }
+{
+    if is_conflict(code) {
+        Status::Conflict
+    } else if is_full(code) {
+        Status::Full
+    } else if is_missing(code) {
+        Status::NotFound
+    } else if is_text(code, "A700") {
+        Status::TooLarge
+    } else if is_text(code, "memory") {
+        Status::Unavailable
+    } else if is_bad(code) {
         Status::BadRequest
     } else {
         Status::ServerError
     }
 }
 
-/// The status of a code.
-fn refused_status(code: &str) -> Status
-    ensures { is_success result ≡ false }
-{
-    match code {
-        "1" => Status::BadRequest,
-        "2" => Status::BadRequest,
-        "3" => Status::Conflict,
-        "4" => Status::Full,
-        "5" => Status::NotFound,
-        "6" => Status::NotFound,
-        "A700" => Status::TooLarge,
-        "request" => Status::BadRequest,
-        "taken" => Status::Conflict,
-        "no store" => Status::Conflict,
-        "full" => Status::Full,
-        "failed" => Status::ServerError,
-        "memory" => Status::Unavailable,
-        _ => other_status(code),
-    }
-}
-
 /// The response where the console did not do what it was asked.
 fn unanswered(alloc: Global, told: &[u8]) -> Result<Reply, AllocError>
-    ensures { IfOk result (λ reply. is_success reply.status ≡ false) }
+    ensures { IfOk result (IsRefusedReply told.now) }
 {
     let code = code_in(told);
-    refused_reply(alloc, refused_status(code), code)
+    refused_reply(alloc, code_status(code), code)
 }
 
 /// The status of an order that is done.
 fn done_status(form: Form) -> Status
-    ensures { is_success result ≡ true }
+    ensures { result ≡ done_status form }
 {
     match form {
         Form::Scheduled => Status::Created,
@@ -144,14 +176,21 @@ fn done_status(form: Form) -> Status
     }
 }
 
+fn is_done(told: &[u8]) -> bool
+    ensures { result ≡ is_done told.now }
+{
+    told == b"done\n".as_slice()
+}
+
 /// The response to an order.
 fn order_reply(alloc: Global, form: Form, told: &[u8]) -> Result<Reply, AllocError>
-    ensures { IfOk result (λ reply. is_success reply.status ≡ is_done told.now) }
+    ensures { IfOk result (IsOrderReply form told.now) }
 {
-    if told == b"done\n".as_slice() {
-        return Ok(reply_of(done_status(form), Kind::Json, Vec::new(alloc)));
+    if is_done(told) {
+        Ok(reply_of(done_status(form), Kind::Json, Vec::new(alloc)))
+    } else {
+        unanswered(alloc, told)
     }
-    unanswered(alloc, told)
 }
 
 fn comma_for(octet: u8) -> u8
@@ -190,11 +229,17 @@ fn answers_in(told: &[u8]) -> Option<&[u8]>
     }
 }
 
+fn is_empty_answer(told: &[u8]) -> bool
+    ensures { result ≡ is_empty_answer told.now }
+{
+    told == b"end 0\n".as_slice()
+}
+
 /// The response to a search.
 fn answers_reply(alloc: Global, told: &[u8]) -> Result<Reply, AllocError>
     ensures { IfOk result (IsAnswersReply told.now) }
 {
-    if told == b"end 0\n".as_slice() {
+    if is_empty_answer(told) {
         return Ok(reply_of(Status::NoContent, Kind::DicomJson, Vec::new(alloc)));
     }
     match answers_in(told) {
@@ -471,7 +516,7 @@ pub fn answered(
 /// The response to a request that the front refuses, as octets. The last one of its connection says so.
 pub fn refused(alloc: Global, refusal: Refusal, is_last: bool) -> Result<Vec<u8>, AllocError>
     ensures { IfOk result (λ octets.
-        IsResponse (λ reply. is_success reply.status ≡ false) is_last octets.items) }
+        IsResponse (λ reply. reply.status ≡ refusal_status refusal) is_last octets.items) }
 {
     let reply = refused_reply(alloc, Status::of(refusal), refusal.word())?;
     printed(alloc, &reply, is_last)

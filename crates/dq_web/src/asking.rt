@@ -184,7 +184,7 @@ fn owner_of<'a>(place: Place<'a>) -> &'a [u8]
     }
 }
 
-fn begins(text: &str, word: &str) -> bool
+pub(crate) fn begins(text: &str, word: &str) -> bool
     ensures { result ≡ starts_with ◌==◌ text.now word.now }
 {
     text.starts_with(word)

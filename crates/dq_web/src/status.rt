@@ -1,6 +1,6 @@
 //! The statuses of responses (RFC 9110 section 15).
-ghost use Rattle.std.specs.Prelude.{◌≡◌, false};
-ghost use Rattle.dq_web.specs.Responses.{status_line, is_success};
+ghost use Rattle.std.specs.Prelude.{◌≡◌};
+ghost use Rattle.dq_web.specs.Responses.{status_line, refusal_status};
 
 use crate::refusal::{Allowed, Refusal};
 
@@ -52,7 +52,7 @@ impl Status {
 
     /// Returns the status of a refusal of the front.
     pub(crate) fn of(refusal: Refusal) -> Status
-        ensures { is_success result ≡ false }
+        ensures { result ≡ refusal_status refusal }
     {
         match refusal {
             Refusal::Request => Status::BadRequest,
