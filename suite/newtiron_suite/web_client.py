@@ -1,4 +1,5 @@
 """A client of the web front that is strict with what it is answered: for the suite and the measurements of the front."""
+import email.utils
 import json
 import re
 
@@ -37,6 +38,8 @@ class Response:
         for name, status in (("www-authenticate", 401), ("allow", 405)):
             if (name in self.fields) != (self.status == status):
                 self.faults.append(f"{name} with status {self.status}")
+        if email.utils.parsedate_tz(self.fields.get("date", "")) is None:
+            self.faults.append(f"date: {self.fields.get('date')}")
         if (self.status == 204) == ("content-length" in self.fields):
             self.faults.append(f"content-length with status {self.status}: {self.fields.get('content-length')}")
 

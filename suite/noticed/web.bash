@@ -19,6 +19,10 @@ notices 'a look that withdraws' 'what is kept is as before' "$front" "$(server w
 notices 'a method of any name' 'a method' "$front" "$(server web-takes-any-method)" methods
 notices 'a body after HEAD' 'HEAD has no body' "$front" "$(server web-sends-a-body-to-head)" methods
 notices 'a host of any name' 'Host evil.example' "$front" "$(server web-takes-any-host)" hosts
+notices 'a path that goes up' 'a path that goes up' "$front" "$(server web-paths-go-up)" methods
+notices 'a connection that stays open' 'it is closed at once' "$front" "$(server web-stays-open)" grammar
+notices 'a body that is awaited without a key' 'no 100 Continue' "$front" "$(server web-bids-anybody-go-on)" grammar
+notices 'a form that is not accepted' 'rs/studies' "$front" "$(server web-gives-what-is-not-accepted)" searches
 notices 'two hosts' 'a head with two Hosts' "$front" "$(server web-takes-two-hosts)" grammar
 notices 'a front that waits for one' 'slow' "$front" "$(server web-waits-for-one)" slow
 notices 'a front that closes one connection of seven' '100 at once' "$front" "$(server web-closes-each:7)" many

@@ -1,35 +1,67 @@
 -- What is done for the octets that came of a connection.
-use Rattle.std.specs.Prelude.{◌≡◌, ℕ, ◌++◌, List, codes}
+use Rattle.std.specs.Prelude.{◌≡◌, ◌⊎◌, ℕ, ◌++◌, Bool, true, IsTrue, List, codes}
+use Rattle.dq_web.specs.declared.asking.Asked.{Asked}
+use Rattle.dq_web.specs.declared.asking.Asked.TheVariants as asked
 use Rattle.dq_web.specs.declared.asking.Question.{Question}
+use Rattle.dq_web.specs.declared.cutting.Cut.TheVariants as cut
+use Rattle.dq_web.specs.declared.cutting.Head.{Head}
 use Rattle.dq_web.specs.declared.cutting.Request.{Request}
 use Rattle.dq_web.specs.declared.guard.Guard.{Guard}
-use Rattle.dq_web.specs.Asking.{IsQuestion}
-use Rattle.dq_web.specs.Requests.{IsRequest}
+use Rattle.dq_web.specs.declared.refusal.Refusal.{Refusal}
+use Rattle.dq_web.specs.declared.replies.Framing.{Framing}
+use Rattle.dq_web.specs.declared.replies.Reply.{Reply}
+use Rattle.dq_web.specs.Answers.{IsResponse, IsDocument, IsHealthReply}
+use Rattle.dq_web.specs.Asking.{IsAsked, IsQuestion, IsJudged}
+use Rattle.dq_web.specs.Requests.{IsCutOff, IsRequest, is_expecting, is_of_head}
+use Rattle.dq_web.specs.Responses.{refusal_status}
 use Rattle.dq_front.specs.declared.front.Answer.{Answer}
 use Rattle.dq_front.specs.declared.front.Deed.{Deed}
 use Rattle.dq_front.specs.declared.front.Deed.TheVariants as deed
 use Rattle.dq_front.specs.declared.front.Given.{Given}
 use Rattle.dq_front.specs.declared.front.Given.TheVariants as given
 
--- A request is given a response, or the console is asked what it asks, as a line: its key opens the
--- name of the question.
-abbrev pub IsGiven : Guard → Request → Given → Type 0
-IsGiven guard request (given.Response octets) = Unit {0}
-IsGiven guard request (given.Question question) = (asked : Question)
-    × IsQuestion guard request asked
-    × (question ≡ record asked { line = asked.line ++ codes "\n"; is_last = request.is_last })
+-- the response to a refusal
+abbrev pub IsRefusal : Refusal → Framing → List ℕ → Type 0
+IsRefusal refusal framing octets =
+    IsResponse (λ (reply : Reply). reply.status ≡ refusal_status refusal) framing octets
 
--- An answer is that of the request which stands at the front of the octets (RFC 9112).
+-- the response to what asks nothing of the console
+abbrev pub IsOwnResponse : Asked → Framing → List ℕ → Type 0
+IsOwnResponse (asked.Refused refusal) framing octets = IsRefusal refusal framing octets
+IsOwnResponse (asked.Document document) framing octets = IsResponse (IsDocument document) framing octets
+IsOwnResponse asked.Health framing octets = IsResponse IsHealthReply framing octets
+IsOwnResponse (asked.Question question) framing octets = ⊥
+
+-- A request is given the response to what it asks, or the console is asked what it asks, as a line: its key
+-- opens the name of the question.
+abbrev pub IsGiven : Guard → Request → Framing → Given → Type 0
+IsGiven guard request framing (given.Response octets) =
+    (it : Asked) × IsAsked guard request it × IsOwnResponse it framing octets
+IsGiven guard request framing (given.Question question) = (it : Question)
+    × IsQuestion guard request it
+    × (question ≡ record it { line = it.line ++ codes "\n"; framing = framing })
+
+-- an answer is that of the request which stands at the front of the octets (RFC 9112)
 pub record IsAnswer (guard : Guard) (came : List ℕ) (answer : Answer) : Type 0 where
   pub request : Request
+  pub framing : Framing
   pub stands : IsRequest came request
-  pub given : IsGiven guard request answer.given
+  pub last : framing.is_last ≡ request.head.is_last
+  pub content : framing.is_head ≡ is_of_head request.head
+  pub given : IsGiven guard request framing answer.given
   pub extent : answer.extent ≡ request.extent
-  pub last : answer.is_last ≡ request.is_last
+  pub ends : answer.is_last ≡ request.head.is_last
 
--- Without a whole request nothing is asked.
+-- a head whose body has not come is let in, and its key opens what it aims at
+abbrev pub IsAwaited : Guard → List ℕ → Head → Type 0
+IsAwaited guard came head = IsCutOff came (cut.Begun head) × IsJudged guard head
+
+-- Nothing is done for what is no whole head, or for a head that is let in, whose body is awaited; only such a
+-- sender is told to go on. A refusal ends the connection.
 abbrev pub IsDeed : Guard → List ℕ → Deed → Type 0
-IsDeed guard came deed.Wait = Unit {0}
-IsDeed guard came deed.GoOn = Unit {0}
-IsDeed guard came (deed.Refuse response) = Unit {0}
+IsDeed guard came deed.Wait =
+    IsCutOff came cut.Unfinished ⊎ ((head : Head) × IsAwaited guard came head)
+IsDeed guard came deed.GoOn = (head : Head) × IsAwaited guard came head × IsTrue (is_expecting head)
+IsDeed guard came (deed.Refuse response) = (refusal : Refusal) × (framing : Framing)
+    × (framing.is_last ≡ true) × IsRefusal refusal framing response
 IsDeed guard came (deed.Answer answer) = IsAnswer guard came answer

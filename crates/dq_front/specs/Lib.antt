@@ -1,1 +1,3 @@
 pub mod Deeds
+pub mod Sites
+pub mod Visits

@@ -1,20 +1,24 @@
 //! Connections of the web front, whose requests call the console.
-ghost use Rattle.std.specs.Prelude.{IfOk};
+ghost use Rattle.std.specs.Prelude.{◌≡◌, ℕ, List, map, IfOk};
 ghost use Rattle.dq_web.specs.Answers.{IsReplyTo, IsResponse};
-ghost use Rattle.dq_front.specs.Deeds.{IsDeed};
+ghost use Rattle.dq_web.specs.Requests.{IsCutOff, IsRequest};
+ghost use Rattle.dq_web.specs.declared.cutting.Cut.TheVariants as cut;
+ghost use Rattle.dq_front.specs.Deeds.{IsGiven, IsAnswer, IsDeed};
+ghost use Rattle.dq_front.specs.Sites.{limits_of};
 
 use crate::noting::{status_of, words_of};
 use crate::visitor::{Stage, Visitor};
 use dq_config::Institution;
 use dq_list::Listed;
 use dq_web::{
-    Asked, Counters, Cut, Guard, Question, Refusal, answered, ask, cut_off, document, healthy,
-    refused,
+    Asked, Counters, Cut, Framing, Guard, Head, Question, Request, answered, ask, cut_off,
+    document, healthy, judge, refused,
 };
 use dq_wires::{READ_MOST, ReadTurn, WireFault, Wires};
+use httpdate::HttpDate;
 use std::alloc::{AllocError, Global};
 use std::mem;
-use std::time::Instant;
+use std::time::{Instant, SystemTime};
 
 /// The most connections at a time.
 const MOST_VISITORS: usize = 64;
@@ -27,7 +31,7 @@ const CONTINUE: &[u8] = b"HTTP/1.1 100 Continue\r\n\r\n";
 enum Deed {
     /// Nothing yet: a request is not whole.
     Wait,
-    /// The client is told to go on.
+    /// The client, whose head is let in, is told to go on.
     GoOn,
     /// A response is written, and nothing comes after it.
     Refuse(Vec<u8>),
@@ -76,7 +80,9 @@ pub struct Front<W> {
 }
 
 /// What counts here of an institution: its name and its limits.
-fn limits_of(alloc: Global, institution: &Institution) -> Result<Institution, AllocError> {
+fn limits_of(alloc: Global, institution: &Institution) -> Result<Institution, AllocError>
+    ensures { IfOk result (λ known. known ≡ limits_of institution.now) }
+{
     Ok(Institution {
         name: Listed::copy_of(alloc, institution.name.as_slice())?,
         routes: Listed::empty(alloc),
@@ -94,7 +100,11 @@ impl Site {
         alloc: Global,
         guard: Guard,
         institutions: &[Institution],
-    ) -> Result<Self, AllocError> {
+    ) -> Result<Self, AllocError>
+        ensures guard { IfOk result (λ site. site.guard ≡ guard) }
+        ensures limits { IfOk result (λ site.
+            site.institutions.items ≡ map limits_of institutions.now) }
+    {
         let mut known = Vec::new(alloc);
         for institution in institutions {
             known.push(limits_of(alloc, institution)?)?;
@@ -107,40 +117,82 @@ impl Site {
         })
     }
 
-    /// What is done for octets that came.
-    fn deed_for(&self, came: &[u8]) -> Result<Deed, AllocError>
+    /// What is done for octets that came, at a time.
+    fn deed_for(&self, came: &[u8], date: Option<HttpDate>) -> Result<Deed, AllocError>
         ensures { IfOk result (IsDeed self.now.guard came.now) }
     {
-        let request = match cut_off(came) {
-            Cut::Unfinished => return Ok(Deed::Wait),
-            Cut::Expecting => return Ok(Deed::GoOn),
-            Cut::Refused(refusal) => return Ok(Deed::Refuse(refused(self.alloc, refusal, true)?)),
-            Cut::Whole(request) => request,
+        match cut_off(came) {
+            Cut::Unfinished => Ok(Deed::Wait),
+            Cut::Begun(head) => self.deed_for_head(&head, date),
+            Cut::Refused(refusal) => {
+                let framing = Framing {
+                    is_last: true,
+                    is_head: false,
+                    date,
+                };
+                Ok(Deed::Refuse(refused(self.alloc, refusal, framing)?))
+            }
+            Cut::Whole(request) => Ok(Deed::Answer(self.answer_to(&request, date)?)),
+        }
+    }
+
+    /// What is done for a head whose body has not come.
+    fn deed_for_head(&self, head: &Head<'_>, date: Option<HttpDate>) -> Result<Deed, AllocError>
+        ensures { (came : List ℕ) → IsCutOff came (cut.Begun head.now)
+            → IfOk result (IsDeed self.now.guard came) }
+    {
+        let framing = Framing {
+            is_last: true,
+            is_head: head.is_head(),
+            date,
         };
-        let is_last = request.is_last;
-        let given = match ask(self.alloc, &self.guard, &request)? {
-            Asked::Refused(refusal) => Given::Response(refused(self.alloc, refusal, is_last)?),
-            Asked::Document(which) => Given::Response(document(self.alloc, which, is_last)?),
-            Asked::Health => Given::Response(healthy(self.alloc, is_last)?),
+        match judge(self.alloc, &self.guard, head)? {
+            Some(refusal) => Ok(Deed::Refuse(refused(self.alloc, refusal, framing)?)),
+            None if head.is_expecting() => Ok(Deed::GoOn),
+            None => Ok(Deed::Wait),
+        }
+    }
+
+    /// What a request is given.
+    fn given_for(&self, request: &Request<'_>, framing: Framing) -> Result<Given, AllocError>
+        ensures { IfOk result (IsGiven self.now.guard request.now framing) }
+    {
+        match ask(self.alloc, &self.guard, request)? {
+            Asked::Refused(refusal) => Ok(Given::Response(refused(self.alloc, refusal, framing)?)),
+            Asked::Document(which) => Ok(Given::Response(document(self.alloc, which, framing)?)),
+            Asked::Health => Ok(Given::Response(healthy(self.alloc, framing)?)),
             Asked::Question(mut question) => {
                 question.line.push(b'\n')?;
-                question.is_last = is_last;
-                Given::Question(question)
+                question.framing = framing;
+                Ok(Given::Question(question))
             }
+        }
+    }
+
+    /// The answer to a request that is whole.
+    fn answer_to(&self, request: &Request<'_>, date: Option<HttpDate>) -> Result<Answer, AllocError>
+        ensures { (came : List ℕ) → IsRequest came request.now
+            → IfOk result (IsAnswer self.now.guard came) }
+    {
+        let is_last = request.head.is_last;
+        let framing = Framing {
+            is_last,
+            is_head: request.head.is_head(),
+            date,
         };
-        Ok(Deed::Answer(Answer {
-            words: words_of(self.alloc, &request)?,
+        let words = words_of(self.alloc, request)?;
+        Ok(Answer {
+            words,
             extent: request.extent,
             is_last,
-            given,
-        }))
+            given: self.given_for(request, framing)?,
+        })
     }
 
     /// The response to a question that the console answered so.
     fn response_to(&self, question: &Question, told: &[u8]) -> Result<Vec<u8>, AllocError>
         ensures { IfOk result (λ octets.
-            IsResponse (IsReplyTo question.now.form question.now.name told.now)
-            question.now.is_last octets.items) }
+            IsResponse (IsReplyTo question.now told.now) question.now.framing octets.items) }
     {
         let institutions = self.institutions.as_slice();
         answered(self.alloc, question, told, institutions, &self.counters)
@@ -222,6 +274,7 @@ impl<W: Wires + Drop> Front<W> {
             Stage::Reading if visitor.is_fresh => true,
             Stage::Reading => visitor.read(&mut self.wires, self.buffer.as_mut_slice()),
             Stage::Waiting(_) | Stage::Asking(..) => true,
+            Stage::Over => false,
         };
         let is_there = is_there && self.is_taken_up(at).is_ok();
         is_there || self.is_called(at)
@@ -243,7 +296,8 @@ impl<W: Wires + Drop> Front<W> {
             return Ok(());
         }
         visitor.is_fresh = false;
-        let deed = self.site.deed_for(visitor.came.as_slice())?;
+        let date = date_of(&self.clock);
+        let deed = self.site.deed_for(visitor.came.as_slice(), date)?;
         let begun = Instant::now(&self.clock).ok();
         match deed {
             Deed::Wait => {}
@@ -325,6 +379,14 @@ impl<W: Wires + Drop> Front<W> {
         self.visitors
             .iter_mut()
             .find(|visitor| visitor.place == place && visitor.is_called)
+    }
+}
+
+// The date of a clock, if it says one.
+fn date_of(clock: &HostRuntime) -> Option<HttpDate> {
+    match SystemTime::now(clock) {
+        Ok(time) => HttpDate::try_from(time).ok(),
+        Err(_) => None,
     }
 }
 

@@ -56,9 +56,9 @@ fn parts_of(path: &[u8]) -> (&[u8], &[u8]) {
 /// The words of a request in a log: its method, its institution or a hyphen, and the path below that
 /// without its query.
 pub(crate) fn words_of(alloc: Global, request: &Request<'_>) -> Result<String, AllocError> {
-    let (name, below) = parts_of(path_of(request.target));
+    let (name, below) = parts_of(path_of(request.head.target));
     let mut text = String::new(alloc);
-    put_told(&mut text, request.method)?;
+    put_told(&mut text, request.head.method)?;
     text.push(' ')?;
     put_told(&mut text, name)?;
     text.push(' ')?;

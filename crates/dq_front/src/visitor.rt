@@ -1,7 +1,9 @@
 //! A connection of the web front.
-ghost use Rattle.std.specs.Prelude.{◌≤◌, length};
+ghost use Rattle.std.specs.Prelude.{◌≡◌, ◌≤◌, Bool, length, true, false, IsTrue};
 ghost use Rattle.dq_wires.specs.Logs.{IfGot};
+ghost use Rattle.dq_front.specs.Visits.{IsOver, IsRest, WritesRest, IsAfterLast};
 
+use dq_list::Listed;
 use dq_web::{Form, Question};
 use dq_wires::{ReadTurn, WireFault, Wires};
 use std::alloc::{AllocError, Global};
@@ -18,7 +20,9 @@ pub(crate) enum Stage {
     /// The console takes it: so many octets of its line were given.
     Asking(Question, usize),
     /// A response is written: so many of its octets were.
-    Writing(Vec<u8>, usize),
+    Writing(Listed<u8>, usize),
+    /// The last response was written: nothing is read behind it (RFC 9112 section 9.6).
+    Over,
 }
 
 /// A connection: its place among the wires, what came and is not taken, what becomes of its request,
@@ -67,7 +71,7 @@ impl Visitor {
     pub fn wants_counts(&self) -> bool {
         match &self.stage {
             Stage::Waiting(question) | Stage::Asking(question, _) => question.form == Form::Metrics,
-            Stage::Reading | Stage::Writing(..) => false,
+            Stage::Reading | Stage::Writing(..) | Stage::Over => false,
         }
     }
 
@@ -75,18 +79,24 @@ impl Visitor {
     pub fn is_busy(&self) -> bool {
         match self.stage {
             Stage::Reading => self.is_fresh,
-            Stage::Waiting(_) | Stage::Asking(..) => true,
+            Stage::Waiting(_) | Stage::Asking(..) | Stage::Over => true,
             Stage::Writing(..) => self.is_called,
         }
     }
 
-    /// Keeps a response to be written.
-    pub fn put(&mut self, response: Vec<u8>) {
-        self.stage = Stage::Writing(response, 0);
+    /// Keeps a response to be written, unless the last one was.
+    pub fn put(&mut self, response: Vec<u8>)
+        ensures over { IsOver self.old.stage → self.new ≡ self.old }
+    {
+        if !matches!(self.stage, Stage::Over) {
+            self.stage = Stage::Writing(Listed::from_inner(response), 0);
+        }
     }
 
     /// Takes its request to the console. The answer is whether it waited for that.
-    pub fn begin(&mut self) -> bool {
+    pub fn begin(&mut self) -> bool
+        ensures over { IsOver self.old.stage → IsOver self.new.stage }
+    {
         match mem::replace(&mut self.stage, Stage::Reading) {
             Stage::Waiting(question) => {
                 self.stage = Stage::Asking(question, 0);
@@ -119,29 +129,64 @@ impl Visitor {
         Ok(ReadTurn::Got(count))
     }
 
-    /// Writes what is left of its response. The answer is whether the connection is still there.
-    pub fn write<W: Wires>(&mut self, wires: &mut W) -> bool {
-        let Stage::Writing(response, written) = &mut self.stage else {
-            return true;
+    /// What is left of its response.
+    fn rest(&self) -> Option<&[u8]>
+        ensures { IsRest self.now.stage result }
+    {
+        let Stage::Writing(response, written) = &self.stage else {
+            return None;
         };
-        let Some(rest) = response.get(*written..) else {
-            return false;
+        match response.as_slice().split_at_checked(*written) {
+            Some((_, rest)) => Some(rest),
+            None => None,
+        }
+    }
+
+    /// Writes what is left of its response at its own place. The answer is whether the connection is still
+    /// there: it is not once the last response was written.
+    pub fn write<W: Wires>(&mut self, wires: &mut W) -> bool
+        ensures told { WritesRest self.old.place self.old.stage (W.log wires.old) (W.log wires.new) }
+        ensures last { IsTrue self.old.is_last → IsAfterLast self.old.stage self.new.stage }
+        ensures same { self.new.is_last ≡ self.old.is_last }
+        ensures place { self.new.place ≡ self.old.place }
+    {
+        let Some(rest) = self.rest() else {
+            return !matches!(self.stage, Stage::Writing(..) | Stage::Over);
         };
+        let left = rest.len();
         match wires.write(self.place, rest) {
             Ok(count) => {
-                *written = written.saturating_add(count);
-                if *written >= response.len() {
-                    self.stage = Stage::Reading;
-                    return !self.is_last;
-                }
-                true
+                self.advance(count, count >= left);
+                !matches!(self.stage, Stage::Over)
             }
             Err(WireFault) => false,
         }
     }
 
+    /// Counts octets that were written, the last ones of the response if that is said.
+    fn advance(&mut self, count: usize, is_whole: bool)
+        ensures last { IsTrue self.old.is_last → IsAfterLast self.old.stage self.new.stage }
+        ensures same { self.new.is_last ≡ self.old.is_last }
+        ensures place { self.new.place ≡ self.old.place }
+    {
+        if is_whole {
+            self.stage = if self.is_last {
+                Stage::Over
+            } else {
+                Stage::Reading
+            };
+        } else if let Stage::Writing(_, written) = &mut self.stage {
+            *written = written.saturating_add(count);
+        }
+    }
+
     /// Reads what came. The answer is whether the connection is still there.
-    pub fn read<W: Wires>(&mut self, wires: &mut W, buffer: &mut [u8]) -> bool {
+    pub fn read<W: Wires>(&mut self, wires: &mut W, buffer: &mut [u8]) -> bool
+        ensures over { IsOver self.old.stage → (self.new ≡ self.old) × (wires.new ≡ wires.old) }
+    {
+        if let Stage::Over = self.stage {
+            return false;
+        }
         match wires.read(self.place, buffer) {
             Ok(ReadTurn::Got(count)) => {
                 let Some(came) = buffer.get(..count) else {

@@ -7,6 +7,7 @@ use Rattle.dq_web.specs.declared.places.Place.{Place}
 use Rattle.dq_web.specs.declared.places.Place.TheVariants.{Metrics, Backup, Counts, Studies, Series, Images, Worklist, Entry, Steps}
 use Rattle.dq_web.specs.declared.asking.Method.{Method}
 use Rattle.dq_web.specs.declared.asking.Method.TheVariants.{Get, Post, Delete, Other}
+use Rattle.dq_web.specs.declared.asking.Method.TheVariants as method
 use Rattle.dq_web.specs.declared.asking.Question.{Question}
 use Rattle.dq_web.specs.Asking.{is_printable, IsMethod, query_words, digits_of, Looking, Asks, IsLook, look_words}
 use Rattle.dq_web.specs.Places.{IsPath, beneath}
@@ -43,6 +44,7 @@ pub IsLook-asks : (method : Method) (place : Place) (text query body : List ℕ)
     → IsMethod text method → Asks method place query body question
     → text ≢ codes "POST" → text ≢ codes "DELETE" → IsLook question.line
 IsLook-asks Get place text query body question by asks post delete = IsLook-looking place query question asks
+IsLook-asks method.Head place text query body question by asks post delete = IsLook-looking place query question asks
 IsLook-asks Post place text query body question by asks post delete = absurd (post by)
 IsLook-asks Delete place text query body question by asks post delete = absurd (delete by)
 IsLook-asks Other place text query body question by asks post delete = absurd asks
@@ -97,6 +99,8 @@ pub schedules : (method : Method) (place : Place) (text path query body : List �
     × (question.line ≡ codes "schedule " ++ question.name ++ codes " " ++ digits_of body)
 schedules Get place text path query body question by at asks rest line =
     absurd ((HasOther-looking place query question asks).0 (ap second line))
+schedules method.Head place text path query body question by at asks rest line =
+    absurd ((HasOther-looking place query question asks).0 (ap second line))
 schedules Post (Worklist name) text path query body question by at asks rest line = (
   by,
   at_worklist question.name at.0 at.1 _ path at.2 (asks.2 ∙ at.3.0) at.3.1,
@@ -119,6 +123,8 @@ pub withdraws : (method : Method) (place : Place) (text path query body : List �
     × (question.line ≡ codes "withdraw " ++ question.name ++ codes " " ++ digits_of (percent_decode id))
 withdraws Get place text path query body question by at asks rest line =
     absurd ((HasOther-looking place query question asks).1 (ap second line))
+withdraws method.Head place text path query body question by at asks rest line =
+    absurd ((HasOther-looking place query question asks).1 (ap second line))
 withdraws Post (Worklist name) text path query body question by at asks rest line =
     let h : second (codes "schedule " ++ name.now ++ codes " " ++ digits_of body) ≡ second (codes "withdraw " ++ rest) = ap second (sym asks.0 ∙ line) in absurd (omega arith)
 withdraws Post Backup text path query body question by at asks rest line =
@@ -140,6 +146,8 @@ pub backs_up : (method : Method) (place : Place) (text path query body : List �
     → (text ≡ codes "POST") × (path ≡ codes "/backup") × (question.name ≡ codes "*")
     × (question.line ≡ codes "backup " ++ body)
 backs_up Get place text path query body question by at asks rest line =
+    absurd ((HasOther-looking place query question asks).2 (ap second line))
+backs_up method.Head place text path query body question by at asks rest line =
     absurd ((HasOther-looking place query question asks).2 (ap second line))
 backs_up Post (Worklist name) text path query body question by at asks rest line =
     let h : second (codes "schedule " ++ name.now ++ codes " " ++ digits_of body) ≡ second (codes "backup " ++ rest) = ap second (sym asks.0 ∙ line) in absurd (omega arith)

@@ -11,9 +11,12 @@ use Rattle.dq_web.specs.declared.asking.Document.{Document}
 use Rattle.dq_web.specs.declared.asking.Document.TheVariants as document
 use Rattle.dq_web.specs.declared.asking.Form.{Form}
 use Rattle.dq_web.specs.declared.asking.Form.TheVariants as form
+use Rattle.dq_web.specs.declared.asking.Question.{Question}
+use Rattle.dq_web.specs.declared.asking.Wish.{Wish}
 use Rattle.dq_web.specs.declared.answering.Counts.{Counts}
 use Rattle.dq_web.specs.declared.answering.TheConstants.{STUDIES, SERIES, IMAGES, ENTRIES, STEPS, LIMIT, CLOSE}
 use Rattle.dq_web.specs.declared.page.TheConstants.{INDEX, STYLE, SCRIPT}
+use Rattle.dq_web.specs.declared.replies.Framing.{Framing}
 use Rattle.dq_web.specs.declared.replies.Reply.{Reply}
 use Rattle.dq_web.specs.declared.replies.Kind.TheVariants as kind
 use Rattle.dq_web.specs.declared.status.Status.{Status}
@@ -85,13 +88,20 @@ IsRefusedReply told reply =
 abbrev pub is_empty_answer : List ℕ → Bool
 is_empty_answer told = bytes_eq told (codes "end 0\n")
 
--- The response to a search: the array of the answers, in their order, where there are some; no content
--- where none is found; and else the status of the refusal (PS3.18 section 10.6.3).
-abbrev pub IsAnswersReply : List ℕ → Reply → Type 0
-IsAnswersReply told reply =
-    (IsTrue (is_empty_answer told) × (reply.status ≡ status.NoContent) × (reply.body ≡ []))
+-- the response where no answer is found: no content, or an empty array
+abbrev pub IsEmptyReply : Bool → Reply → Type 0
+IsEmptyReply true reply =
+    (reply.status ≡ status.Done) × (reply.kind ≡ kind.DicomJson) × (reply.body ≡ codes "[]")
+IsEmptyReply false reply = (reply.status ≡ status.NoContent) × (reply.body ≡ [])
+
+-- The response to a search: the array of the answers, in their order, where there are some; no content, or an
+-- empty array, where none is found; and else the status of the refusal (PS3.18 section 10.6.3).
+abbrev pub IsAnswersReply : Wish → List ℕ → Reply → Type 0
+IsAnswersReply wish told reply =
+    (IsTrue (is_empty_answer told) × IsEmptyReply wish.wants_array reply × (reply.is_literal ≡ wish.is_fuzzy))
     ⊎ (((front : List ℕ) × SplitsAnswers told front × (reply.status ≡ status.Done)
-    × (reply.kind ≡ kind.DicomJson) × (reply.body ≡ codes "[" ++ map comma_for front ++ codes "]"))
+    × (reply.kind ≡ kind.DicomJson) × (reply.body ≡ codes "[" ++ map comma_for front ++ codes "]")
+    × (reply.is_literal ≡ wish.is_fuzzy))
     ⊎ ((is_empty_answer told ≡ false) × HasNoAnswers told × IsRefusedReply told reply))
 
 -- the status of an order that is done (RFC 9110 sections 15.3.1, 15.3.2 and 15.3.5)
@@ -160,22 +170,29 @@ IsCountsReply name told reply =
     × (reply.status ≡ status.Done) × (reply.body ≡ counts_text counts institution))
     ⊎ IsRefusedReply told reply
 
--- the response to a question of a form about a name
-abbrev pub IsReplyTo : Form → List ℕ → List ℕ → Reply → Type 0
-IsReplyTo form.Answers name told reply = IsAnswersReply told reply
-IsReplyTo form.Counts name told reply = IsCountsReply name told reply
-IsReplyTo form.Scheduled name told reply = IsOrderReply form.Scheduled told reply
-IsReplyTo form.Withdrawn name told reply = IsOrderReply form.Withdrawn told reply
-IsReplyTo form.BackedUp name told reply = IsOrderReply form.BackedUp told reply
-IsReplyTo form.Metrics name told reply = Unit {0}
+-- the response to a question by its form, its name and its wish
+abbrev pub IsReplyBy : Form → List ℕ → Wish → List ℕ → Reply → Type 0
+IsReplyBy form.Answers name wish told reply = IsAnswersReply wish told reply
+IsReplyBy form.Counts name wish told reply = IsCountsReply name told reply
+IsReplyBy form.Scheduled name wish told reply = IsOrderReply form.Scheduled told reply
+IsReplyBy form.Withdrawn name wish told reply = IsOrderReply form.Withdrawn told reply
+IsReplyBy form.BackedUp name wish told reply = IsOrderReply form.BackedUp told reply
+IsReplyBy form.Metrics name wish told reply = Unit {0}
 
--- the octets of a response of which this holds, the last one of its connection if that is said
-abbrev pub IsResponse : (Reply → Type 0) → Bool → List ℕ → Type 0
-IsResponse Holds is_last octets =
-    (reply : Reply) × Holds reply × (octets ≡ response_text reply is_last)
+abbrev pub IsReplyTo : Question → List ℕ → Reply → Type 0
+IsReplyTo question told reply = IsReplyBy question.form question.name question.wish told reply
+
+-- the octets of a response of which this holds, as it is framed
+abbrev pub IsResponse : (Reply → Type 0) → Framing → List ℕ → Type 0
+IsResponse Holds framing octets =
+    (reply : Reply) × Holds reply × (octets ≡ response_text reply framing)
 
 -- a document of the page for people
 abbrev pub IsDocument : Document → Reply → Type 0
 IsDocument document.Page reply = (reply.status ≡ status.Done) × (reply.kind ≡ kind.Page) × (reply.body ≡ INDEX.now)
 IsDocument document.Style reply = (reply.status ≡ status.Done) × (reply.kind ≡ kind.Style) × (reply.body ≡ STYLE.now)
 IsDocument document.Script reply = (reply.status ≡ status.Done) × (reply.kind ≡ kind.Script) × (reply.body ≡ SCRIPT.now)
+
+-- the front is there
+abbrev pub IsHealthReply : Reply → Type 0
+IsHealthReply reply = (reply.status ≡ status.Done) × (reply.kind ≡ kind.Text) × (reply.body ≡ codes "ok\n")

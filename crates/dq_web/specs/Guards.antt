@@ -1,16 +1,18 @@
 -- Whom the front admits: by host, by origin and by key.
-use Rattle.std.specs.Prelude.{◌≡◌, ◌⊎◌, ℕ, ◌++◌, IsTrue, List, codes, Option, Some, None, option_copied}
+use Rattle.std.specs.Prelude.{◌≡◌, ◌⊎◌, ℕ, ◌++◌, Bool, true, false, IsTrue, List, codes, Option, Some, None, option_copied}
 use Rattle.std.specs.Char.{is_ascii_digit}
 use Rattle.std.specs.List.{list_all, list_any}
+use Rattle.std.specs.Str.{trim_start}
 use Rattle.sha2.specs.Sha256.{sha256}
 use Rattle.dq_web.specs.declared.cutting.Fields.{Fields}
 use Rattle.dq_web.specs.declared.keys.Keys.{Keys}
 use Rattle.dq_web.specs.KeyFiles.{opens}
+use Rattle.dq_web.specs.Requests.{is_named}
 
--- a Host is this one, with or without a port (RFC 9110 section 7.2)
+-- a Host is this one, in letters of either case, with or without a port (RFC 9110 sections 4.2.3 and 7.2)
 abbrev pub IsAt : List ℕ → List ℕ → Type 0
-IsAt host value = (value ≡ host)
-    ⊎ ((port : List ℕ) × (value ≡ host ++ (codes ":" ++ port)) × IsTrue (list_all is_ascii_digit port))
+IsAt host value = (name : List ℕ) × IsTrue (is_named name host) × ((value ≡ name)
+    ⊎ ((port : List ℕ) × (value ≡ name ++ (codes ":" ++ port)) × IsTrue (list_all is_ascii_digit port)))
 
 -- the front's own host, where it has one
 abbrev pub IsOwnHost : Option (List ℕ) → List ℕ → Type 0
@@ -22,26 +24,42 @@ abbrev pub IsKnownHost : Option (List ℕ) → List ℕ → Type 0
 IsKnownHost own value = IsAt (codes "127.0.0.1") value
     ⊎ (IsAt (codes "localhost") value ⊎ (IsAt (codes "[::1]") value ⊎ IsOwnHost own value))
 
+-- the origin of a page of this host, by this scheme
+abbrev pub IsOrigin : List ℕ → List ℕ → List ℕ → Type 0
+IsOrigin scheme host origin =
+    (rest : List ℕ) × (origin ≡ scheme ++ rest) × IsTrue (is_named rest host)
+
 -- an Origin, where one is given, is that of a page of the same host (RFC 6454 section 7)
 abbrev pub IsSameOrigin : List ℕ → Option (List ℕ) → Type 0
 IsSameOrigin host None = Unit {0}
 IsSameOrigin host (Some origin) =
-    (origin ≡ codes "http://" ++ host) ⊎ (origin ≡ codes "https://" ++ host)
+    IsOrigin (codes "http://") host origin ⊎ IsOrigin (codes "https://") host origin
 
 -- a Sec-Fetch-Site, where one is given, is that of a page of the front, or of none
 abbrev pub IsSameSite : Option (List ℕ) → Type 0
 IsSameSite None = Unit {0}
 IsSameSite (Some site) = (site ≡ codes "same-origin") ⊎ (site ≡ codes "none")
 
--- the request is for a host of the front, and no page of another origin sent it
-pub record IsAdmitted (own : Option (List ℕ)) (fields : Fields) : Type 0 where
-  pub host : List ℕ
-  pub named : option_copied fields.host ≡ Some host
+-- the page for people may be opened from another site too, as a document of its own and in no frame
+abbrev pub IsAllowedSite : Bool → Fields → Type 0
+IsAllowedSite true fields = IsSameSite (option_copied fields.fetch_site)
+    ⊎ (option_copied fields.fetch_dest ≡ Some (codes "document"))
+IsAllowedSite false fields = IsSameSite (option_copied fields.fetch_site)
+
+-- a request to a host of the front, which no page of another origin sent, unless it opens the page
+pub record IsAdmitted (own : Option (List ℕ)) (host : List ℕ) (is_page : Bool) (fields : Fields) : Type 0 where
   pub known : IsKnownHost own host
   pub origin : IsSameOrigin host (option_copied fields.origin)
-  pub site : IsSameSite (option_copied fields.fetch_site)
+  pub site : IsAllowedSite is_page fields
 
--- an Authorization tells a key that is one of this name's (RFC 6750 section 2.1)
+-- an Authorization tells a key: behind the scheme, in letters of either case, and spaces (RFC 9110 section
+-- 11.4, RFC 6750 section 2.1)
+abbrev pub TellsKey : Option (List ℕ) → List ℕ → Type 0
+TellsKey authorization key = (scheme : List ℕ) × (rest : List ℕ)
+    × (authorization ≡ Some (scheme ++ (codes " " ++ rest)))
+    × IsTrue (is_named scheme (codes "bearer")) × (key ≡ trim_start rest)
+
+-- it tells a key that is one of this name's
 abbrev pub IsOpened : Keys → List ℕ → Option (List ℕ) → Type 0
-IsOpened keys name authorization = (key : List ℕ) × (authorization ≡ Some (codes "Bearer " ++ key))
+IsOpened keys name authorization = (key : List ℕ) × TellsKey authorization key
     × IsTrue (list_any (opens name (sha256 key)) keys.entries)

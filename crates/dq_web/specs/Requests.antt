@@ -1,15 +1,18 @@
 -- Requests of HTTP, as they stand in the octets of a connection (RFC 9112).
-use Rattle.std.specs.Prelude.{◌≡◌, ℕ, ◌+◌, ◌≤◌, ◌++◌, ◌==◌, ◌||◌, Bool, false, List, length, map, filter, codes, Option, Some, None, option_to_list, option_copied}
+use Rattle.std.specs.Prelude.{◌≡◌, ℕ, ◌+◌, ◌<◌, ◌≤◌, ◌++◌, ◌==◌, ◌||◌, ◌&&◌, not, Bool, true, false, List, length, map, filter, drop, codes, Option, Some, None, option_to_list, option_copied}
 use Rattle.std.specs.Char.{to_ascii_lowercase}
 use Rattle.std.specs.List.{list_any, slice_split}
 use Rattle.std.specs.Str.{bytes_eq}
 use Rattle.std.specs.Str.Parse.{IsNumeral, digits_value}
-use Rattle.httparse.specs.Grammar.{RequestHead, ReadsRequest, print_request}
+use Rattle.httparse.specs.Grammar.{RequestHead, ReadsRequest, HasNoRequest, print_request}
 use Rattle.httparse.specs.Spans.{name_and_value}
 use Rattle.dq_web.specs.declared.cutting.Cut.{Cut}
-use Rattle.dq_web.specs.declared.cutting.Cut.TheVariants.{Unfinished, Expecting, Whole, Refused}
+use Rattle.dq_web.specs.declared.cutting.Cut.TheVariants.{Unfinished, Begun, Whole, Refused}
 use Rattle.dq_web.specs.declared.cutting.Fields.{Fields}
+use Rattle.dq_web.specs.declared.cutting.Head.{Head}
 use Rattle.dq_web.specs.declared.cutting.Request.{Request}
+use Rattle.dq_web.specs.declared.cutting.Test.{Test}
+use Rattle.dq_web.specs.declared.cutting.Test.TheVariants as test
 
 -- letters of either case are one in the name of a field
 abbrev pub lowered : List ℕ → List ℕ
@@ -27,16 +30,54 @@ values_named name fields =
 abbrev pub IsSole : List ℕ → List (List ℕ × List ℕ) → Option (List ℕ) → Type 0
 IsSole name fields found = values_named name fields ≡ option_to_list found
 
--- the values of the fields that count, each of which stands once at most
+-- what stands between the words of a list: a comma, a blank beside one, or a semicolon before a parameter
+-- (RFC 9110 sections 5.6.1 and 5.6.6)
+abbrev pub is_between : ℕ → Bool
+is_between octet = octet == 44 || (octet == 32 || (octet == 9 || (octet == 59)))
+
+-- the word says that no request follows (RFC 9112 section 9.6)
+abbrev pub is_close : List ℕ → Bool
+is_close word = is_named word (codes "close")
+
+-- the media type of DICOM JSON (PS3.18 section 8.7.3)
+abbrev pub is_dicom_json : List ℕ → Bool
+is_dicom_json word = is_named word (codes "application/dicom+json")
+
+-- a range of media types in which JSON is (RFC 9110 section 12.5.1)
+abbrev pub is_json_range : List ℕ → Bool
+is_json_range word = is_dicom_json word || (is_named word (codes "application/json")
+    || (is_named word (codes "application/*") || is_named word (codes "*/*")))
+
+-- a word of a list passes a test
+abbrev pub passes_word : Test → List ℕ → Bool
+passes_word test.Present word = true
+passes_word test.Close word = is_close word
+passes_word test.DicomJson word = is_dicom_json word
+passes_word test.Json word = is_json_range word
+
+-- one of the words of a list does
+abbrev pub passes : Test → List ℕ → Bool
+passes wanted list = list_any (passes_word wanted) (slice_split is_between list)
+
+-- one of the values of the fields with a name does
+abbrev pub any_passes : Test → List ℕ → List (List ℕ × List ℕ) → Bool
+any_passes wanted name pairs = list_any (passes wanted) (values_named name pairs)
+
+-- The values of the fields that count. Connection and Accept are lists, and may stand more than once; each
+-- other one stands once at most. Where no Accept says so, JSON is accepted.
 pub record AreFields (pairs : List (List ℕ × List ℕ)) (fields : Fields) : Type 0 where
   pub host : IsSole (codes "host") pairs (option_copied fields.host)
   pub origin : IsSole (codes "origin") pairs (option_copied fields.origin)
   pub fetch_site : IsSole (codes "sec-fetch-site") pairs (option_copied fields.fetch_site)
+  pub fetch_dest : IsSole (codes "sec-fetch-dest") pairs (option_copied fields.fetch_dest)
   pub authorization : IsSole (codes "authorization") pairs (option_copied fields.authorization)
-  pub connection : IsSole (codes "connection") pairs (option_copied fields.connection)
   pub expect : IsSole (codes "expect") pairs (option_copied fields.expect)
   pub content_length : IsSole (codes "content-length") pairs (option_copied fields.content_length)
   pub transfer_encoding : IsSole (codes "transfer-encoding") pairs (option_copied fields.transfer_encoding)
+  pub closes : fields.closes ≡ any_passes test.Close (codes "connection") pairs
+  pub accepts_json : fields.accepts_json ≡ (any_passes test.Json (codes "accept") pairs
+      || not (any_passes test.Present (codes "accept") pairs))
+  pub asks_dicom_json : fields.asks_dicom_json ≡ any_passes test.DicomJson (codes "accept") pairs
 
 -- a number of octets, at most 1 MiB, in decimal digits
 abbrev pub IsContentLength : List ℕ → ℕ → Type 0
@@ -48,40 +89,46 @@ abbrev pub IsBodyLength : Option (List ℕ) → ℕ → Type 0
 IsBodyLength None number = number ≡ 0
 IsBodyLength (Some text) number = IsContentLength text number
 
--- a comma, or a blank beside one (RFC 9110 section 5.6.1)
-abbrev pub is_between : ℕ → Bool
-is_between octet = octet == 44 || (octet == 32 || octet == 9)
+-- A head stands at the front of octets: it is one of the grammar, has 16 KiB at most, each field that counts
+-- stands once at most, and the body comes in no coding. After a request of HTTP/1.0, or one with `close`,
+-- none follows.
+pub record IsHead (octets : List ℕ) (head : Head) : Type 0 where
+  pub parts : RequestHead
+  pub reads : ReadsRequest octets parts (drop head.extent octets)
+  pub method : head.method.now ≡ parts.method
+  pub target : head.target.now ≡ parts.target
+  pub fields : AreFields (map name_and_value parts.fields) head.fields
+  pub coding : option_copied head.fields.transfer_encoding ≡ None
+  pub body : IsBodyLength (option_copied head.fields.content_length) head.body_length
+  pub old : head.is_old ≡ (parts.minor == 0)
+  pub last : head.is_last ≡ (parts.minor == 0 || head.fields.closes)
+  pub extent : head.extent ≡ length (print_request parts)
+  pub bound : head.extent ≤ 16384
 
--- one of the options of a Connection says that no request follows (RFC 9112 section 9.6)
-abbrev pub is_close : List ℕ → Bool
-is_close option = is_named option (codes "close")
-
-abbrev pub has_close : List ℕ → Bool
-has_close options = list_any is_close (slice_split is_between options)
-
-abbrev pub says_close : Option (List ℕ) → Bool
-says_close None = false
-says_close (Some options) = has_close options
-
--- A request stands at the front of octets: its head is one of the grammar, each field that counts
--- stands once at most, the body comes in no coding and is as long as the head says, and the request
--- takes the octets of both. After one of HTTP/1.0, one with `close`, or one to HEAD, none follows.
+-- a request stands at the front of octets: its head, and a body as long as that says, whose octets it takes
 pub record IsRequest (octets : List ℕ) (request : Request) : Type 0 where
-  pub head : RequestHead
+  pub head : IsHead octets request.head
   pub rest : List ℕ
-  pub reads : ReadsRequest octets head (request.body.now ++ rest)
-  pub method : request.method.now ≡ head.method
-  pub target : request.target.now ≡ head.target
-  pub fields : AreFields (map name_and_value head.fields) request.fields
-  pub coding : option_copied request.fields.transfer_encoding ≡ None
-  pub body : IsBodyLength (option_copied request.fields.content_length) (length request.body.now)
-  pub last : request.is_last ≡ (head.minor == 0 || says_close (option_copied request.fields.connection)
-      || bytes_eq request.method.now (codes "HEAD"))
-  pub extent : request.extent ≡ length (print_request head) + length request.body.now
+  pub body : drop request.head.extent octets ≡ request.body.now ++ rest
+  pub whole : length request.body.now ≡ request.head.body_length
+  pub extent : request.extent ≡ request.head.extent + length request.body.now
 
--- what was cut off octets
+-- What was cut off octets. No whole head is there, in at most 16 KiB; or a head whose body is not whole; or a
+-- request.
 abbrev pub IsCutOff : List ℕ → Cut → Type 0
-IsCutOff octets Unfinished = Unit {0}
-IsCutOff octets Expecting = Unit {0}
+IsCutOff octets Unfinished = (length octets ≤ 16384) × HasNoRequest octets
+IsCutOff octets (Begun head) = IsHead octets head × (length octets < head.extent + head.body_length)
 IsCutOff octets (Whole request) = IsRequest octets request
 IsCutOff octets (Refused refusal) = Unit {0}
+
+-- the sender of a head waits for leave to send the body (RFC 9110 section 10.1.1)
+abbrev pub is_expected : Option (List ℕ) → Bool
+is_expected None = false
+is_expected (Some value) = is_named value (codes "100-continue")
+
+abbrev pub is_expecting : Head → Bool
+is_expecting head = not head.is_old && is_expected (option_copied head.fields.expect)
+
+-- a response to the head has no content (RFC 9110 section 9.3.2)
+abbrev pub is_of_head : Head → Bool
+is_of_head head = bytes_eq head.method.now (codes "HEAD")

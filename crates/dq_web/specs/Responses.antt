@@ -1,14 +1,17 @@
 -- Responses, as octets (RFC 9112 section 2.1).
-use Rattle.std.specs.Prelude.{ℕ, ◌++◌, Bool, true, false, if◌then◌else◌, List, [], length, codes}
+use Rattle.std.specs.Prelude.{ℕ, ◌++◌, Bool, true, false, if◌then◌else◌, List, [], length, codes, Option, Some, None}
 use Rattle.std.specs.Fmt.{decimal}
+use Rattle.httpdate.specs.Date.{date_text}
+use Rattle.httpdate.specs.declared.date.HttpDate.{HttpDate}
 use Rattle.dq_web.specs.declared.refusal.Allowed.TheVariants as allowed
 use Rattle.dq_web.specs.declared.refusal.Refusal.{Refusal}
 use Rattle.dq_web.specs.declared.refusal.Refusal.TheVariants as refusal
+use Rattle.dq_web.specs.declared.replies.Framing.{Framing}
 use Rattle.dq_web.specs.declared.replies.Kind.{Kind}
 use Rattle.dq_web.specs.declared.replies.Kind.TheVariants as kind
 use Rattle.dq_web.specs.declared.replies.Reply.{Reply}
 use Rattle.dq_web.specs.declared.status.Status.{Status}
-use Rattle.dq_web.specs.declared.status.Status.TheVariants.{Done, Created, NoContent, BadRequest, Unauthorized, Forbidden, NotFound, MethodNotAllowed, Conflict, TooLarge, Misdirected, HeadTooLarge, ServerError, NotImplemented, Unavailable, Full}
+use Rattle.dq_web.specs.declared.status.Status.TheVariants.{Done, Created, NoContent, BadRequest, Unauthorized, Forbidden, NotFound, MethodNotAllowed, NotAcceptable, Conflict, TooLarge, Misdirected, HeadTooLarge, ServerError, NotImplemented, Unavailable, Full}
 
 -- the status code and the reason phrase (RFC 9110 section 15; of 507 RFC 4918 section 11.5)
 abbrev pub status_line : Status → List ℕ
@@ -20,6 +23,7 @@ status_line Unauthorized = codes "401 Unauthorized"
 status_line Forbidden = codes "403 Forbidden"
 status_line NotFound = codes "404 Not Found"
 status_line (MethodNotAllowed methods) = codes "405 Method Not Allowed"
+status_line NotAcceptable = codes "406 Not Acceptable"
 status_line Conflict = codes "409 Conflict"
 status_line TooLarge = codes "413 Content Too Large"
 status_line Misdirected = codes "421 Misdirected Request"
@@ -40,6 +44,7 @@ refusal_status refusal.Origin = Forbidden
 refusal_status refusal.Path = NotFound
 refusal_status (refusal.Method methods) = MethodNotAllowed methods
 refusal_status refusal.Key = Unauthorized
+refusal_status refusal.Accept = NotAcceptable
 refusal_status refusal.Unsupported = NotImplemented
 
 abbrev pub content_type : Kind → List ℕ
@@ -67,10 +72,10 @@ guarding_fields =
 -- the fields that a status asks for (RFC 9110 sections 11.6.1 and 10.2.1)
 abbrev pub extra_fields : Status → List ℕ
 extra_fields Unauthorized = codes "WWW-Authenticate: Bearer" ++ line_end
-extra_fields (MethodNotAllowed allowed.Get) = codes "Allow: GET" ++ line_end
+extra_fields (MethodNotAllowed allowed.Get) = codes "Allow: GET, HEAD" ++ line_end
 extra_fields (MethodNotAllowed allowed.Post) = codes "Allow: POST" ++ line_end
 extra_fields (MethodNotAllowed allowed.Delete) = codes "Allow: DELETE" ++ line_end
-extra_fields (MethodNotAllowed allowed.GetAndPost) = codes "Allow: GET, POST" ++ line_end
+extra_fields (MethodNotAllowed allowed.GetAndPost) = codes "Allow: GET, HEAD, POST" ++ line_end
 extra_fields status = []
 
 -- a response of 204 has no content (RFC 9110 section 15.3.5)
@@ -101,10 +106,27 @@ abbrev pub closing_field : Bool → List ℕ
 closing_field true = codes "Connection: close\r\n"
 closing_field false = []
 
-abbrev pub whole_head_text : Reply → Bool → List ℕ
-whole_head_text reply is_last = head_text reply.status ++ closing_field is_last
+-- when the response was made (RFC 9110 section 6.6.1)
+abbrev pub date_field : Option HttpDate → List ℕ
+date_field None = []
+date_field (Some date) = codes "Date: " ++ (date_text date ++ line_end)
+
+-- fuzzy matching was asked for, and there is none (PS3.18 section 8.3.4.2)
+abbrev pub warning_field : Bool → List ℕ
+warning_field true = codes "Warning: 299 newtiron \"The fuzzymatching parameter is not supported. "
+    ++ codes "Only literal matching has been performed.\"\r\n"
+warning_field false = []
+
+abbrev pub whole_head_text : Reply → Framing → List ℕ
+whole_head_text reply framing = head_text reply.status ++ date_field framing.date
+    ++ closing_field framing.is_last ++ warning_field reply.is_literal
     ++ body_fields reply.status reply.kind (length reply.body) ++ line_end
 
--- the octets of a response, the last one of its connection if that is said
-abbrev pub response_text : Reply → Bool → List ℕ
-response_text reply is_last = whole_head_text reply is_last ++ reply.body
+-- a response to HEAD is that to GET without its content (RFC 9110 section 9.3.2)
+abbrev pub content : Bool → List ℕ → List ℕ
+content true body = []
+content false body = body
+
+-- the octets of a response, as it is framed
+abbrev pub response_text : Reply → Framing → List ℕ
+response_text reply framing = whole_head_text reply framing ++ content framing.is_head reply.body

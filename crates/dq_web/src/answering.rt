@@ -1,19 +1,19 @@
 //! Responses: what the console told, and what the front answers by itself.
-ghost use Rattle.std.specs.Prelude.{◌≡◌, ◌≢◌, ◌++◌, true, codes, map, IfOk, OnOk, IfSome, MatchOption, ℕ, List};
+ghost use Rattle.std.specs.Prelude.{◌≡◌, ◌≢◌, ◌++◌, true, false, codes, map, IfOk, OnOk, IfSome, MatchOption, ℕ, List};
 ghost use Rattle.std.specs.Str.{bytes_eq};
 ghost use Rattle.std.specs.Char.{is_ascii_digit};
 ghost use Rattle.std.specs.List.{list_all};
-ghost use Rattle.dq_web.specs.Responses.{refusal_status, response_text};
-ghost use Rattle.dq_web.specs.Answers.{comma_for, is_done, done_status, is_conflict, is_full, is_missing, is_bad, code_status, IsCode, IsRefusedReply, is_empty_answer, IsOrderReply, SplitsAnswers, HasNoAnswers, IsAnswersReply, IsNumber, AreCounts, IsNumberBehind, IsOwnLine, limit_text, study_counts_text, step_counts_text, counts_text, IsCountsReply, IsReplyTo, IsResponse, IsDocument};
+ghost use Rattle.dq_web.specs.Responses.{refusal_status};
+ghost use Rattle.dq_web.specs.Answers.{comma_for, is_done, done_status, is_conflict, is_full, is_missing, is_bad, code_status, IsCode, IsRefusedReply, is_empty_answer, IsOrderReply, SplitsAnswers, HasNoAnswers, IsAnswersReply, IsNumber, AreCounts, IsNumberBehind, IsOwnLine, limit_text, study_counts_text, step_counts_text, counts_text, IsCountsReply, IsReplyTo, IsResponse, IsDocument, IsHealthReply, IsEmptyReply};
 
-use crate::asking::{Document, Form, Question, begins};
+use crate::asking::{Document, Form, Question, Wish, begins};
 use crate::counters::Counters;
 use crate::keys::at_space;
 use crate::metrics::metrics_text;
 use crate::page::{INDEX, SCRIPT, STYLE};
 use crate::places::behind;
 use crate::refusal::Refusal;
-use crate::replies::{Kind, Reply, printed, put, put_number};
+use crate::replies::{Framing, Kind, Reply, printed, put, put_number};
 use crate::status::Status;
 use dq_config::Institution;
 use dq_list::Listed;
@@ -35,12 +35,13 @@ pub(crate) const CLOSE: &str = "}}";
 
 /// A response with a body.
 fn reply_of(status: Status, kind: Kind, body: Vec<u8>) -> Reply
-    ensures { result ≡ record { status = status; kind = kind; body = body.items } }
+    ensures { result ≡ record { status = status; kind = kind; body = body.items; is_literal = false } }
 {
     Reply {
         status,
         kind,
         body: Listed::from_inner(body),
+        is_literal: false,
     }
 }
 
@@ -235,15 +236,45 @@ fn is_empty_answer(told: &[u8]) -> bool
     told == b"end 0\n".as_slice()
 }
 
+/// The array of the answers that a search found, and that matching was not fuzzy where that was wanted.
+fn found_reply(body: Vec<u8>, wish: Wish) -> Reply
+    ensures { result ≡ record {
+      status = Status.Done;
+      kind = Kind.DicomJson;
+      body = body.items;
+      is_literal = wish.is_fuzzy;
+    } }
+{
+    Reply {
+        status: Status::Done,
+        kind: Kind::DicomJson,
+        body: Listed::from_inner(body),
+        is_literal: wish.is_fuzzy,
+    }
+}
+
+/// The response where no answer is found.
+fn empty_reply(alloc: Global, wish: Wish) -> Result<Reply, AllocError>
+    ensures { IfOk result (λ reply. IsEmptyReply wish.wants_array reply
+        × (reply.is_literal ≡ wish.is_fuzzy)) }
+{
+    if wish.wants_array {
+        return Ok(found_reply(Vec::from_slice(alloc, b"[]")?, wish));
+    }
+    let mut reply = reply_of(Status::NoContent, Kind::DicomJson, Vec::new(alloc));
+    reply.is_literal = wish.is_fuzzy;
+    Ok(reply)
+}
+
 /// The response to a search.
-fn answers_reply(alloc: Global, told: &[u8]) -> Result<Reply, AllocError>
-    ensures { IfOk result (IsAnswersReply told.now) }
+fn answers_reply(alloc: Global, wish: Wish, told: &[u8]) -> Result<Reply, AllocError>
+    ensures { IfOk result (IsAnswersReply wish told.now) }
 {
     if is_empty_answer(told) {
-        return Ok(reply_of(Status::NoContent, Kind::DicomJson, Vec::new(alloc)));
+        return empty_reply(alloc, wish);
     }
     match answers_in(told) {
-        Some(front) => Ok(reply_of(Status::Done, Kind::DicomJson, array_of(alloc, front)?)),
+        Some(front) => Ok(found_reply(array_of(alloc, front)?, wish)),
         None => unanswered(alloc, told),
     }
 }
@@ -485,10 +516,10 @@ fn reply_to(
     institutions: &[Institution],
     counters: &Counters,
 ) -> Result<Reply, AllocError>
-    ensures { IfOk result (IsReplyTo question.now.form question.now.name told.now) }
+    ensures { IfOk result (IsReplyTo question.now told.now) }
 {
     match question.form {
-        Form::Answers => answers_reply(alloc, told),
+        Form::Answers => answers_reply(alloc, question.wish, told),
         Form::Counts => counts_reply(alloc, question.name.as_slice(), told, institutions),
         Form::Metrics => metrics_reply(alloc, told, institutions, counters),
         Form::Scheduled => order_reply(alloc, Form::Scheduled, told),
@@ -506,20 +537,19 @@ pub fn answered(
     counters: &Counters,
 ) -> Result<Vec<u8>, AllocError>
     ensures { IfOk result (λ octets.
-        IsResponse (IsReplyTo question.now.form question.now.name told.now) question.now.is_last
-        octets.items) }
+        IsResponse (IsReplyTo question.now told.now) question.now.framing octets.items) }
 {
     let reply = reply_to(alloc, question, told, institutions, counters)?;
-    printed(alloc, &reply, question.is_last)
+    printed(alloc, &reply, question.framing)
 }
 
-/// The response to a request that the front refuses, as octets. The last one of its connection says so.
-pub fn refused(alloc: Global, refusal: Refusal, is_last: bool) -> Result<Vec<u8>, AllocError>
+/// The response to a request that the front refuses, as octets.
+pub fn refused(alloc: Global, refusal: Refusal, framing: Framing) -> Result<Vec<u8>, AllocError>
     ensures { IfOk result (λ octets.
-        IsResponse (λ reply. reply.status ≡ refusal_status refusal) is_last octets.items) }
+        IsResponse (λ reply. reply.status ≡ refusal_status refusal) framing octets.items) }
 {
     let reply = refused_reply(alloc, Status::of(refusal), refusal.word())?;
-    printed(alloc, &reply, is_last)
+    printed(alloc, &reply, framing)
 }
 
 /// A document of the page for people.
@@ -546,20 +576,16 @@ fn document_reply(alloc: Global, document: Document) -> Result<Reply, AllocError
 }
 
 /// A document of the page for people, as octets of a response.
-pub fn document(alloc: Global, document: Document, is_last: bool) -> Result<Vec<u8>, AllocError>
-    ensures { IfOk result (λ octets. IsResponse (IsDocument document) is_last octets.items) }
+pub fn document(alloc: Global, document: Document, framing: Framing) -> Result<Vec<u8>, AllocError>
+    ensures { IfOk result (λ octets. IsResponse (IsDocument document) framing octets.items) }
 {
-    printed(alloc, &document_reply(alloc, document)?, is_last)
+    printed(alloc, &document_reply(alloc, document)?, framing)
 }
 
 /// The response that the front is there, as octets.
-pub fn healthy(alloc: Global, is_last: bool) -> Result<Vec<u8>, AllocError>
-    ensures { IfOk result (λ octets. octets.items
-        ≡ response_text (record { status = Status.Done; kind = Kind.Text; body = codes "ok\n" }) is_last) }
+pub fn healthy(alloc: Global, framing: Framing) -> Result<Vec<u8>, AllocError>
+    ensures { IfOk result (λ octets. IsResponse IsHealthReply framing octets.items) }
 {
-    printed(
-        alloc,
-        &reply_of(Status::Done, Kind::Text, Vec::from_slice(alloc, b"ok\n")?),
-        is_last,
-    )
+    let reply = reply_of(Status::Done, Kind::Text, Vec::from_slice(alloc, b"ok\n")?);
+    printed(alloc, &reply, framing)
 }

@@ -1,14 +1,17 @@
 //! What requests ask of the console.
-ghost use Rattle.std.specs.Prelude.{◌≡◌, ◌==◌, ◌++◌, codes, IsTrue, IfOk};
-ghost use Rattle.std.specs.List.{list_all, starts_with};
+ghost use Rattle.std.specs.Prelude.{◌≡◌, ◌==◌, ◌++◌, ◌||◌, codes, Some, IsTrue, IfOk, OnOk, IfNone, is_some, option_copied};
+ghost use Rattle.std.specs.List.{list_all, list_any, starts_with};
+ghost use Rattle.std.specs.Str.{bytes_eq};
 ghost use Rattle.percent_encoding.specs.Percent.{percent_decode};
-ghost use Rattle.dq_web.specs.Asking.{is_visible, is_printable, is_left_out, is_limit, query_words, digits_of, owner_of, Says, IsTarget, IsMethod, Looking, Posting, Deleting, Asks, IsAsked};
+ghost use Rattle.dq_web.specs.declared.asking.Form.TheVariants as forms;
+ghost use Rattle.dq_web.specs.Asking.{is_visible, is_printable, is_left_out, is_limit, query_words, digits_of, owner_of, Says, IsPathAndQuery, IsTarget, IsMethod, Looking, Posting, Deleting, Asks, has_no_slash, is_plain_segment, is_plain_path, is_page, IsLetIn, IsJudged, is_fuzzy, parts_of, wish_of, IsAsked};
 
-use crate::cutting::Request;
+use crate::cutting::{Fields, Head, Request};
 use crate::guard::Guard;
 use crate::keys::OPERATOR;
-use crate::places::{Place, place_of};
+use crate::places::{Place, at_slash, behind, place_of};
 use crate::refusal::{Allowed, Refusal};
+use crate::replies::Framing;
 use dq_list::Listed;
 use percent_encoding::percent_decode;
 use std::alloc::{AllocError, Global};
@@ -24,14 +27,24 @@ pub enum Form {
     Metrics,
 }
 
+/// How the answers to a search are wanted.
+#[derive(Clone, Copy, Debug, PartialEq, Eq)]
+pub struct Wish {
+    /// Whether an empty array is wanted where none is found, in place of no content.
+    pub wants_array: bool,
+    /// Whether matching is to be fuzzy, which none is.
+    pub is_fuzzy: bool,
+}
+
 /// A line of the console, how its answer is sent back, and whose key opened it.
 #[derive(Debug, Drop)]
 pub struct Question {
     pub line: Listed<u8>,
     pub form: Form,
     pub name: Listed<u8>,
-    /// Whether no request comes after it on its connection. Whoever holds the connection says so.
-    pub is_last: bool,
+    pub wish: Wish,
+    /// How its response is framed. Whoever holds the connection says so.
+    pub framing: Framing,
 }
 
 /// A document of the page for people.
@@ -55,9 +68,18 @@ pub enum Asked {
 #[derive(Clone, Copy, PartialEq, Eq)]
 pub enum Method {
     Get,
+    Head,
     Post,
     Delete,
     Other,
+}
+
+/// What a head aims at: a place, a method, and the query behind the path.
+#[derive(Clone, Copy)]
+pub struct Aim<'a> {
+    pub place: Place<'a>,
+    pub method: Method,
+    pub query: &'a str,
 }
 
 /// Why nothing is asked.
@@ -117,13 +139,90 @@ fn target_text(octets: &[u8]) -> Result<&str, Refusal>
 }
 
 /// The path of a target, and its query.
-fn path_and_query(target: &str) -> (&str, &str)
-    ensures { IsTarget target.now result.0.now result.1.now }
+fn path_and_query(text: &str) -> (&str, &str)
+    ensures { IsPathAndQuery text.now result.0.now result.1.now }
 {
-    match target.split_once('?') {
+    match text.split_once('?') {
         Some(parts) => parts,
-        None => (target, ""),
+        None => (text, ""),
     }
+}
+
+/// The host of an absolute-form behind its scheme, and the path and query behind that.
+fn at_path(text: &str) -> Result<(&str, &str), Refusal>
+    ensures { IfOk result (λ parts. text.now ≡ parts.0.now ++ parts.1.now) }
+{
+    let Some((host, _)) = at_slash(text) else {
+        return Err(Refusal::Path);
+    };
+    match behind(text, host) {
+        Some(path) => Ok((host, path)),
+        None => Err(Refusal::Path),
+    }
+}
+
+/// The text of the field Host.
+fn host_in(field: Option<&[u8]>) -> Result<&str, Refusal>
+    ensures { IfOk result (λ host. option_copied field.entry ≡ Some host.now) }
+{
+    let Some(octets) = field else {
+        return Err(Refusal::Host);
+    };
+    match str::from_utf8(octets) {
+        Ok(host) => Ok(host),
+        Err(_) => Err(Refusal::Host),
+    }
+}
+
+/// The host of a target, and its path and query.
+fn host_and_path<'a>(
+    target: &'a str,
+    field: Option<&'a [u8]>,
+) -> Result<(&'a str, &'a str), Refusal>
+    ensures { IfOk result (λ parts. IsTarget target.now (option_copied field.entry)
+        parts.0.now parts.1.now) }
+{
+    if let Some(rest) = behind(target, "http://") {
+        return at_path(rest);
+    }
+    if let Some(rest) = behind(target, "https://") {
+        return at_path(rest);
+    }
+    Ok((host_in(field)?, target))
+}
+
+/// Whether a segment is one of those by which a path goes nowhere or up.
+fn is_dots(segment: &[u8]) -> bool
+    ensures { result ≡ (bytes_eq segment.now (codes ".") || bytes_eq segment.now (codes "..")) }
+{
+    segment == b".".as_slice() || segment == b"..".as_slice()
+}
+
+fn has_no_slash(segment: &[u8]) -> bool
+    ensures { result ≡ list_all has_no_slash segment.now }
+{
+    segment.iter().all(|octet| *octet != b'/')
+}
+
+/// Whether a segment, with its octets decoded, names itself.
+fn is_plain_segment(alloc: Global, segment: &str) -> Result<bool, AllocError>
+    ensures { IfOk result (λ is_plain. is_plain ≡ is_plain_segment segment.now) }
+{
+    let mut octets = Vec::new(alloc);
+    percent_decode(segment.as_bytes()).append_to(&mut octets)?;
+    Ok(!is_dots(octets.as_slice()) && has_no_slash(octets.as_slice()))
+}
+
+/// Whether each segment of a path does.
+fn is_plain_path(alloc: Global, path: &str) -> Result<bool, AllocError>
+    ensures { IfOk result (λ is_plain. is_plain ≡ is_plain_path path.now) }
+{
+    let mut are_plain = true;
+    for segment in path.split('/') {
+        let is_plain = is_plain_segment(alloc, segment)?;
+        are_plain = are_plain && is_plain;
+    }
+    Ok(are_plain)
 }
 
 fn method_of(method: &[u8]) -> Method
@@ -134,6 +233,7 @@ fn method_of(method: &[u8]) -> Method
     };
     match method {
         "GET" => Method::Get,
+        "HEAD" => Method::Head,
         "POST" => Method::Post,
         "DELETE" => Method::Delete,
         _ => Method::Other,
@@ -155,7 +255,7 @@ fn allowed_at(place: Place<'_>) -> Result<Allowed, Refusal> {
 fn check_method(place: Place<'_>, method: Method) -> Result<(), Refusal> {
     let allowed = allowed_at(place)?;
     let is_allowed = match method {
-        Method::Get => allowed == Allowed::Get || allowed == Allowed::GetAndPost,
+        Method::Get | Method::Head => { allowed == Allowed::Get || allowed == Allowed::GetAndPost }
         Method::Post => allowed == Allowed::Post || allowed == Allowed::GetAndPost,
         Method::Delete => allowed == Allowed::Delete,
         Method::Other => false,
@@ -223,6 +323,33 @@ fn words_of(alloc: Global, query: &str) -> Result<Vec<u8>, AllocError>
     Ok(words)
 }
 
+fn is_fuzzy(part: &str) -> bool
+    ensures { result ≡ is_fuzzy part.now }
+{
+    part == "fuzzymatching=true"
+}
+
+/// Whether a query asks for fuzzy matching.
+fn asks_fuzzy(query: &str) -> bool
+    ensures { result ≡ list_any is_fuzzy (parts_of query.now) }
+{
+    let mut is_asked = false;
+    for part in query.split('&') {
+        is_asked = is_asked || is_fuzzy(part);
+    }
+    is_asked
+}
+
+/// How the answers to a search are wanted.
+fn wish_of(fields: &Fields<'_>, query: &str) -> Wish
+    ensures { result ≡ wish_of fields.now query.now }
+{
+    Wish {
+        wants_array: fields.asks_dicom_json,
+        is_fuzzy: asks_fuzzy(query),
+    }
+}
+
 /// A question about a name.
 fn make_question(
     alloc: Global,
@@ -237,7 +364,15 @@ fn make_question(
         line: Listed::from_inner(line),
         form,
         name: Listed::copy_of(alloc, name)?,
-        is_last: false,
+        wish: Wish {
+            wants_array: false,
+            is_fuzzy: false,
+        },
+        framing: Framing {
+            is_last: false,
+            is_head: false,
+            date: None,
+        },
     })
 }
 
@@ -394,7 +529,7 @@ fn question_of(
     ensures line { IfOk result (λ question. IsTrue (list_all is_printable question.line)) }
 {
     let question = match method {
-        Method::Get => look_at(alloc, place, query)?,
+        Method::Get | Method::Head => look_at(alloc, place, query)?,
         Method::Post => post_at(alloc, place, body)?,
         Method::Delete => delete_at(alloc, place)?,
         Method::Other => return Err(Unasked::Refused(Refusal::Path)),
@@ -406,24 +541,78 @@ fn question_of(
     }
 }
 
+fn is_page(place: Place<'_>) -> bool
+    ensures { result ≡ is_page place.entry }
+{
+    matches!(place, Place::Page)
+}
+
+/// Refuses a head of HTTP/1.1 that names no host (RFC 9112 section 3.2).
+fn check_host(head: &Head<'_>) -> Result<(), Refusal>
+    ensures { OnOk result (IsTrue (head.now.is_old || is_some (option_copied head.now.fields.host))) }
+{
+    if head.is_old || head.fields.host.is_some() {
+        Ok(())
+    } else {
+        Err(Refusal::Request)
+    }
+}
+
+/// Refuses a path with a segment that does not name itself.
+fn check_path(alloc: Global, path: &str) -> Result<(), Unasked>
+    ensures { OnOk result (IsTrue (is_plain_path path.now)) }
+{
+    if is_plain_path(alloc, path)? {
+        Ok(())
+    } else {
+        Err(Unasked::Refused(Refusal::Request))
+    }
+}
+
+/// What a head aims at, if it is let in.
+fn let_in<'a>(alloc: Global, guard: &Guard, head: &Head<'a>) -> Result<Aim<'a>, Unasked>
+    ensures { IfOk result (IsLetIn guard.now head.now) }
+{
+    check_host(head)?;
+    let (host, text) = host_and_path(target_text(head.target)?, head.fields.host)?;
+    let (path, query) = path_and_query(text);
+    check_path(alloc, path)?;
+    let place = place_of(path);
+    guard.admit(host, is_page(place), &head.fields)?;
+    let method = method_of(head.method);
+    check_method(place, method)?;
+    Ok(Aim {
+        place,
+        method,
+        query,
+    })
+}
+
+/// Refuses a search whose answers are in no form that is accepted.
+fn check_accept(form: Form, fields: &Fields<'_>) -> Result<(), Refusal>
+    ensures { OnOk result (form ≡ forms.Answers → IsTrue fields.now.accepts_json) }
+{
+    if form == Form::Answers && !fields.accepts_json {
+        return Err(Refusal::Accept);
+    }
+    Ok(())
+}
+
 /// What is done for a request, or why nothing is.
 fn answer_for(alloc: Global, guard: &Guard, request: &Request<'_>) -> Result<Asked, Unasked>
     ensures { IfOk result (IsAsked guard.now request.now) }
 {
-    guard.admit(&request.fields)?;
-    let target = target_text(request.target)?;
-    let (path, query) = path_and_query(target);
-    let place = place_of(path);
-    let method = method_of(request.method);
-    check_method(place, method)?;
-    match place {
+    let aim = let_in(alloc, guard, &request.head)?;
+    match aim.place {
         Place::Page => Ok(Asked::Document(Document::Page)),
         Place::Style => Ok(Asked::Document(Document::Style)),
         Place::Script => Ok(Asked::Document(Document::Script)),
         Place::Health => Ok(Asked::Health),
         _ => {
-            guard.open(owner_of(place), request.fields.authorization)?;
-            let question = question_of(alloc, place, method, query, request.body)?;
+            guard.open(owner_of(aim.place), request.head.fields.authorization)?;
+            let mut question = question_of(alloc, aim.place, aim.method, aim.query, request.body)?;
+            check_accept(question.form, &request.head.fields)?;
+            question.wish = wish_of(&request.head.fields, aim.query);
             Ok(Asked::Question(question))
         }
     }
@@ -437,6 +626,28 @@ pub fn ask(alloc: Global, guard: &Guard, request: &Request<'_>) -> Result<Asked,
     match answer_for(alloc, guard, request) {
         Ok(asked) => Ok(asked),
         Err(Unasked::Refused(refusal)) => Ok(Asked::Refused(refusal)),
+        Err(Unasked::NoMemory) => Err(AllocError),
+    }
+}
+
+/// Refuses a head that is not let in, or whose key does not open the place.
+fn check_head(alloc: Global, guard: &Guard, head: &Head<'_>) -> Result<(), Unasked>
+    ensures { OnOk result (IsJudged guard.now head.now) }
+{
+    let aim = let_in(alloc, guard, head)?;
+    match aim.place {
+        Place::Page | Place::Style | Place::Script | Place::Health => Ok(()),
+        _ => Ok(guard.open(owner_of(aim.place), head.fields.authorization)?),
+    }
+}
+
+/// Why a request is refused by its head, before its body has come, if it is.
+pub fn judge(alloc: Global, guard: &Guard, head: &Head<'_>) -> Result<Option<Refusal>, AllocError>
+    ensures { IfOk result (λ refusal. IfNone refusal (IsJudged guard.now head.now)) }
+{
+    match check_head(alloc, guard, head) {
+        Ok(()) => Ok(None),
+        Err(Unasked::Refused(refusal)) => Ok(Some(refusal)),
         Err(Unasked::NoMemory) => Err(AllocError),
     }
 }

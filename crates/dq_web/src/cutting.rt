@@ -1,8 +1,8 @@
 //! Requests, cut off the octets of a connection (RFC 9112).
-ghost use Rattle.std.specs.Prelude.{◌≡◌, ◌≤◌, ◌||◌, length, map, codes, All, IfOk, option_copied};
-ghost use Rattle.std.specs.Str.{bytes_eq};
+ghost use Rattle.std.specs.Prelude.{◌≡◌, ◌≤◌, ◌||◌, ◌==◌, length, map, codes, not, All, IfOk, option_copied};
 ghost use Rattle.httparse.specs.Spans.{IsHeaderWithin, IsRequestWithin, IsRequestOf, header_bytes};
-ghost use Rattle.dq_web.specs.Requests.{is_named, IsSole, AreFields, IsBodyLength, IsCutOff, IsContentLength, is_between, is_close, has_close, says_close};
+ghost use Rattle.dq_web.specs.declared.cutting.Test.TheVariants as test;
+ghost use Rattle.dq_web.specs.Requests.{is_named, IsSole, AreFields, IsBodyLength, IsHead, IsCutOff, IsContentLength, is_between, is_json_range, passes_word, passes, any_passes, is_expecting, is_of_head};
 
 use crate::refusal::Refusal;
 use httparse::spans::{EMPTY_HEADER_SPAN, HeaderSpan, RequestSpans, parse_request};
@@ -23,22 +23,40 @@ pub struct Fields<'a> {
     pub host: Option<&'a [u8]>,
     pub origin: Option<&'a [u8]>,
     pub fetch_site: Option<&'a [u8]>,
+    pub fetch_dest: Option<&'a [u8]>,
     pub authorization: Option<&'a [u8]>,
-    pub connection: Option<&'a [u8]>,
     pub expect: Option<&'a [u8]>,
     pub content_length: Option<&'a [u8]>,
     pub transfer_encoding: Option<&'a [u8]>,
+    /// Whether a Connection says that no request follows.
+    pub closes: bool,
+    /// Whether JSON is accepted: an Accept says so, or there is none.
+    pub accepts_json: bool,
+    /// Whether an Accept names the media type of DICOM JSON.
+    pub asks_dicom_json: bool,
 }
 
-/// A request: its method and target, the fields that count here, and its body.
+/// The head of a request: its method and target, and the fields that count here.
 #[derive(Clone, Copy)]
-pub struct Request<'a> {
+pub struct Head<'a> {
     pub method: &'a [u8],
     pub target: &'a [u8],
     pub fields: Fields<'a>,
-    pub body: &'a [u8],
+    /// Whether it is of HTTP/1.0.
+    pub is_old: bool,
     /// Whether no request comes after it on its connection.
     pub is_last: bool,
+    /// How many octets of the connection it takes.
+    pub extent: usize,
+    /// How many octets its body has.
+    pub body_length: usize,
+}
+
+/// A request: its head, and its body.
+#[derive(Clone, Copy)]
+pub struct Request<'a> {
+    pub head: Head<'a>,
+    pub body: &'a [u8],
     /// How many octets of the connection it takes.
     pub extent: usize,
 }
@@ -46,16 +64,26 @@ pub struct Request<'a> {
 /// What stands at the front of the octets of a connection.
 #[derive(Clone, Copy)]
 pub enum Cut<'a> {
-    /// No whole request yet.
+    /// No whole head yet.
     Unfinished,
-    /// A whole head, whose sender waits for leave to send the body (RFC 9110 section 10.1.1).
-    Expecting,
+    /// A whole head, whose body has not come.
+    Begun(Head<'a>),
     Whole(Request<'a>),
     Refused(Refusal),
 }
 
+/// What is asked of the words of a list in a field.
+#[derive(Clone, Copy)]
+enum Test {
+    /// That there is one.
+    Present,
+    Close,
+    DicomJson,
+    Json,
+}
+
 /// Whether a name is that of a field. Letters of either case are one.
-fn is_named(name: &[u8], field: &[u8]) -> bool
+pub(crate) fn is_named(name: &[u8], field: &[u8]) -> bool
     ensures { result ≡ is_named name.now field.now }
 {
     field.eq_ignore_ascii_case(name)
@@ -83,6 +111,69 @@ fn sole_value<'a>(
     Ok(found)
 }
 
+fn is_between(octet: u8) -> bool
+    ensures { result ≡ is_between octet }
+{
+    octet == b',' || octet == b' ' || octet == b'\t' || octet == b';'
+}
+
+/// Whether a word is a range of media types in which JSON is.
+fn is_json_range(word: &[u8]) -> bool
+    ensures { result ≡ is_json_range word.now }
+{
+    is_named(word, b"application/dicom+json")
+        || is_named(word, b"application/json")
+        || is_named(word, b"application/*")
+        || is_named(word, b"*/*")
+}
+
+/// Whether a word of a list passes a test.
+fn passes_word(wanted: Test, word: &[u8]) -> bool
+    ensures { result ≡ passes_word wanted word.now }
+{
+    match wanted {
+        Test::Present => true,
+        Test::Close => is_named(word, b"close"),
+        Test::DicomJson => is_named(word, b"application/dicom+json"),
+        Test::Json => is_json_range(word),
+    }
+}
+
+/// Whether one of the words of a list does.
+fn passes(wanted: Test, list: &[u8]) -> bool
+    ensures { result ≡ passes wanted list.now }
+{
+    let mut is_found = false;
+    for word in list.split(|octet| is_between(*octet)) {
+        is_found = is_found || passes_word(wanted, word);
+    }
+    is_found
+}
+
+/// Whether one of the values of the fields with a name passes a test.
+fn any_passes(octets: &[u8], headers: &[HeaderSpan], name: &[u8], wanted: Test) -> bool
+    requires { All (IsHeaderWithin (length octets.now)) headers.now }
+    ensures { result ≡ any_passes wanted name.now (map (header_bytes octets.now) headers.now) }
+{
+    let mut is_found = false;
+    for header in headers {
+        if is_named(name, header.name.of(octets)) {
+            is_found = is_found || passes(wanted, header.value.of(octets));
+        }
+    }
+    is_found
+}
+
+/// Whether the fields accept JSON.
+fn accepts_json(octets: &[u8], headers: &[HeaderSpan]) -> bool
+    requires { All (IsHeaderWithin (length octets.now)) headers.now }
+    ensures { result ≡ (any_passes test.Json (codes "accept") (map (header_bytes octets.now) headers.now)
+        || not (any_passes test.Present (codes "accept") (map (header_bytes octets.now) headers.now))) }
+{
+    any_passes(octets, headers, b"accept", Test::Json)
+        || !any_passes(octets, headers, b"accept", Test::Present)
+}
+
 /// The values of the fields that count.
 fn fields_of<'a>(octets: &'a [u8], headers: &[HeaderSpan]) -> Result<Fields<'a>, Refusal>
     requires { All (IsHeaderWithin (length octets.now)) headers.now }
@@ -91,8 +182,8 @@ fn fields_of<'a>(octets: &'a [u8], headers: &[HeaderSpan]) -> Result<Fields<'a>,
     let host = sole_value(octets, headers, b"host")?;
     let origin = sole_value(octets, headers, b"origin")?;
     let fetch_site = sole_value(octets, headers, b"sec-fetch-site")?;
+    let fetch_dest = sole_value(octets, headers, b"sec-fetch-dest")?;
     let authorization = sole_value(octets, headers, b"authorization")?;
-    let connection = sole_value(octets, headers, b"connection")?;
     let expect = sole_value(octets, headers, b"expect")?;
     let content_length = sole_value(octets, headers, b"content-length")?;
     let transfer_encoding = sole_value(octets, headers, b"transfer-encoding")?;
@@ -100,11 +191,14 @@ fn fields_of<'a>(octets: &'a [u8], headers: &[HeaderSpan]) -> Result<Fields<'a>,
         host,
         origin,
         fetch_site,
+        fetch_dest,
         authorization,
-        connection,
         expect,
         content_length,
         transfer_encoding,
+        closes: any_passes(octets, headers, b"connection", Test::Close),
+        accepts_json: accepts_json(octets, headers),
+        asks_dicom_json: any_passes(octets, headers, b"accept", Test::DicomJson),
     })
 }
 
@@ -134,57 +228,43 @@ fn body_length(value: Option<&[u8]>) -> Result<usize, Refusal>
     }
 }
 
-fn is_between(octet: u8) -> bool
-    ensures { result ≡ is_between octet }
+fn ends_here(is_old: bool, closes: bool) -> bool
+    ensures { result ≡ (is_old || closes) }
 {
-    octet == b',' || octet == b' ' || octet == b'\t'
+    is_old || closes
 }
 
-fn is_close(option: &[u8]) -> bool
-    ensures { result ≡ is_close option.now }
+/// The whole head at the front of octets.
+fn head_at<'a>(
+    octets: &'a [u8],
+    headers: &[HeaderSpan],
+    spans: RequestSpans,
+) -> Result<Head<'a>, Refusal>
+    requires within { IsRequestWithin octets.now headers.now spans }
+    requires head { IsRequestOf octets.now headers.now spans }
+    requires bound { spans.len ≤ 16384 }
+    ensures head { IfOk result (IsHead octets.now) }
+    ensures extent { IfOk result (λ head. head.extent ≡ spans.len) }
 {
-    is_named(option, b"close")
-}
-
-/// Whether one of the options of a Connection is this: no request follows (RFC 9112 section 9.6).
-fn has_close(options: &[u8]) -> bool
-    ensures { result ≡ has_close options.now }
-{
-    let mut is_said = false;
-    for option in options.split(|octet| is_between(*octet)) {
-        is_said = is_said || is_close(option);
+    let fields = fields_of(octets, &headers[..spans.headers])?;
+    if fields.transfer_encoding.is_some() {
+        return Err(Refusal::Coding);
     }
-    is_said
+    let body_length = body_length(fields.content_length)?;
+    let is_old = spans.version == 0;
+    let is_last = ends_here(is_old, fields.closes);
+    Ok(Head {
+        method: spans.method.of(octets),
+        target: spans.path.of(octets),
+        fields,
+        is_old,
+        is_last,
+        extent: spans.len,
+        body_length,
+    })
 }
 
-/// Whether a Connection says that no request follows.
-fn says_close(value: Option<&[u8]>) -> bool
-    ensures { result ≡ says_close (option_copied value.entry) }
-{
-    match value {
-        Some(options) => has_close(options),
-        None => false,
-    }
-}
-
-/// Whether nothing is read behind a request: its Connection says so, or its method is HEAD. No
-/// response to HEAD has a body, and a refusal has one.
-fn ends_here(connection: Option<&[u8]>, method: &[u8]) -> bool
-    ensures { result ≡ (says_close (option_copied connection.entry)
-        || bytes_eq method.now (codes "HEAD")) }
-{
-    says_close(connection) || method == b"HEAD".as_slice()
-}
-
-/// Whether an Expect asks for leave to send the body.
-fn is_expecting(value: Option<&[u8]>) -> bool {
-    match value {
-        Some(value) => is_named(value, b"100-continue"),
-        None => false,
-    }
-}
-
-/// The request of a whole head, once its body is there too.
+/// The request of a whole head, if its body is there too.
 fn request_at<'a>(
     octets: &'a [u8],
     headers: &[HeaderSpan],
@@ -192,32 +272,19 @@ fn request_at<'a>(
 ) -> Result<Cut<'a>, Refusal>
     requires within { IsRequestWithin octets.now headers.now spans }
     requires head { IsRequestOf octets.now headers.now spans }
+    requires bound { spans.len ≤ 16384 }
     ensures { IfOk result (IsCutOff octets.now) }
 {
-    let fields = fields_of(octets, &headers[..spans.headers])?;
-    if fields.transfer_encoding.is_some() {
-        return Err(Refusal::Coding);
-    }
-    let length = body_length(fields.content_length)?;
+    let head = head_at(octets, headers, spans)?;
     let (_, rest) = octets.split_at(spans.len);
-    let Some((body, _)) = rest.split_at_checked(length) else {
-        let is_expecting = rest.is_empty() && is_expecting(fields.expect);
-        return Ok(if is_expecting {
-            Cut::Expecting
-        } else {
-            Cut::Unfinished
-        });
-    };
-    let method = spans.method.of(octets);
-    let is_last = spans.version == 0 || ends_here(fields.connection, method);
-    Ok(Cut::Whole(Request {
-        method,
-        target: spans.path.of(octets),
-        fields,
-        body,
-        is_last,
-        extent: spans.len + body.len(),
-    }))
+    match rest.split_at_checked(head.body_length) {
+        Some((body, _)) => Ok(Cut::Whole(Request {
+            head,
+            body,
+            extent: head.extent + body.len(),
+        })),
+        None => Ok(Cut::Begun(head)),
+    }
 }
 
 /// The request at the front of the octets that came on a connection, once it is whole. One that the
@@ -237,5 +304,25 @@ pub fn cut_off(octets: &[u8]) -> Cut<'_>
         Ok(Parsed::Partial) if octets.len() <= HEAD_MOST => Cut::Unfinished,
         Ok(_) | Err(Error::TooManyHeaders) => Cut::Refused(Refusal::Head),
         Err(_) => Cut::Refused(Refusal::Request),
+    }
+}
+
+impl Head<'_> {
+    /// Whether a response to it has no content (RFC 9110 section 9.3.2).
+    pub fn is_head(&self) -> bool
+        ensures { result ≡ is_of_head self.now }
+    {
+        self.method == b"HEAD".as_slice()
+    }
+
+    /// Whether its sender waits for leave to send the body, as none of HTTP/1.0 does (RFC 9110 section
+    /// 10.1.1).
+    pub fn is_expecting(&self) -> bool
+        ensures { result ≡ is_expecting self.now }
+    {
+        match self.fields.expect {
+            Some(value) => !self.is_old && is_named(value, b"100-continue"),
+            None => false,
+        }
     }
 }

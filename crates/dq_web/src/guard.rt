@@ -1,11 +1,12 @@
 //! Whom the front admits: by host, by origin and by key.
-ghost use Rattle.std.specs.Prelude.{◌≡◌, ◌++◌, codes, Some, IsTrue, IfOk, OnOk, IfSome, option_copied};
+ghost use Rattle.std.specs.Prelude.{◌≡◌, ◌++◌, codes, Some, IsTrue, OnOk, IfSome, option_copied};
 ghost use Rattle.std.specs.Char.{is_ascii_digit};
 ghost use Rattle.std.specs.List.{list_all};
-ghost use Rattle.dq_web.specs.Guards.{IsAt, IsKnownHost, IsSameOrigin, IsSameSite, IsAdmitted, IsOpened};
+ghost use Rattle.dq_web.specs.Guards.{IsAt, IsKnownHost, IsOrigin, IsSameOrigin, IsSameSite, IsAllowedSite, IsAdmitted, TellsKey, IsOpened};
+ghost use Rattle.dq_web.specs.Requests.{is_named};
 
-use crate::cutting::Fields;
-use crate::keys::Keys;
+use crate::cutting::{Fields, is_named};
+use crate::keys::{Keys, at_space};
 use crate::places::behind;
 use crate::refusal::Refusal;
 use dq_list::Listed;
@@ -23,13 +24,29 @@ fn are_digits(text: &[u8]) -> bool
     text.iter().all(|octet| octet.is_ascii_digit())
 }
 
-/// Whether a Host is this one, with or without a port.
+fn is_same(text: &str, other: &str) -> bool
+    ensures { result ≡ is_named text.now other.now }
+{
+    is_named(text.as_bytes(), other.as_bytes())
+}
+
+/// What stands before a place in a text, and what behind it.
+fn parts_at(text: &str, at: usize) -> Option<(&str, &str)>
+    ensures { IfSome result (λ parts. text.now ≡ parts.0.now ++ parts.1.now) }
+{
+    text.split_at_checked(at)
+}
+
+/// Whether a Host is this one, in letters of either case, with or without a port.
 fn is_at(value: &str, host: &str) -> bool
     ensures { IsTrue result → IsAt host.now value.now }
 {
-    let Some(rest) = behind(value, host) else {
+    let Some((name, rest)) = parts_at(value, host.len()) else {
         return false;
     };
+    if !is_same(name, host) {
+        return false;
+    }
     if rest.is_empty() {
         return true;
     }
@@ -41,10 +58,10 @@ fn is_at(value: &str, host: &str) -> bool
 
 /// Whether an origin is a host, by this scheme.
 fn is_origin(origin: &str, scheme: &str, host: &str) -> bool
-    ensures { IsTrue result → origin.now ≡ scheme.now ++ host.now }
+    ensures { IsTrue result → IsOrigin scheme.now host.now origin.now }
 {
     match behind(origin, scheme) {
-        Some(rest) => rest == host,
+        Some(rest) => is_same(rest, host),
         None => false,
     }
 }
@@ -85,9 +102,28 @@ fn check_site(value: Option<&[u8]>) -> Result<(), Refusal>
     }
 }
 
+fn is_document(value: Option<&[u8]>) -> bool
+    ensures { IsTrue result → option_copied value.entry ≡ Some (codes "document") }
+{
+    match value {
+        Some(octets) => octets == b"document".as_slice(),
+        None => false,
+    }
+}
+
+/// Refuses a request that a browser says another site made, unless it opens the page in a tab.
+fn check_opening(is_page: bool, fields: &Fields<'_>) -> Result<(), Refusal>
+    ensures { OnOk result (IsAllowedSite is_page fields.now) }
+{
+    if is_page && is_document(fields.fetch_dest) {
+        return Ok(());
+    }
+    check_site(fields.fetch_site)
+}
+
 /// The key that an Authorization tells (RFC 6750 section 2.1).
 fn key_in(value: Option<&[u8]>) -> Option<&[u8]>
-    ensures { IfSome result (λ key. option_copied value.entry ≡ Some (codes "Bearer " ++ key.now)) }
+    ensures { IfSome result (λ key. TellsKey (option_copied value.entry) key.now) }
 {
     let Some(octets) = value else {
         return None;
@@ -95,31 +131,17 @@ fn key_in(value: Option<&[u8]>) -> Option<&[u8]>
     let Ok(text) = str::from_utf8(octets) else {
         return None;
     };
-    match behind(text, "Bearer ") {
-        Some(key) => Some(key.as_bytes()),
-        None => None,
+    let Some((scheme, rest)) = at_space(text) else {
+        return None;
+    };
+    if is_same(scheme, "bearer") {
+        Some(rest.trim_start().as_bytes())
+    } else {
+        None
     }
 }
 
 impl Guard {
-    /// The Host of a request, where it is one of the front's.
-    fn known_host<'a>(&self, value: Option<&'a [u8]>) -> Result<&'a str, Refusal>
-        ensures { IfOk result (λ host. (option_copied value.entry ≡ Some host.now)
-            × IsKnownHost self.now.host host.now) }
-    {
-        let Some(octets) = value else {
-            return Err(Refusal::Host);
-        };
-        let Ok(host) = str::from_utf8(octets) else {
-            return Err(Refusal::Host);
-        };
-        if self.is_known(host) {
-            Ok(host)
-        } else {
-            Err(Refusal::Host)
-        }
-    }
-
     fn is_known(&self, host: &str) -> bool
         ensures { IsTrue result → IsKnownHost self.now.host host.now }
     {
@@ -141,13 +163,21 @@ impl Guard {
         }
     }
 
-    /// Refuses a request for another host, or of a page of another origin.
-    pub(crate) fn admit(&self, fields: &Fields<'_>) -> Result<(), Refusal>
-        ensures { OnOk result (IsAdmitted self.now.host fields.now) }
+    /// Refuses a request to another host, or of a page of another origin. The page itself may be opened
+    /// from there.
+    pub(crate) fn admit(
+        &self,
+        host: &str,
+        is_page: bool,
+        fields: &Fields<'_>,
+    ) -> Result<(), Refusal>
+        ensures { OnOk result (IsAdmitted self.now.host host.now is_page fields.now) }
     {
-        let host = self.known_host(fields.host)?;
+        if !self.is_known(host) {
+            return Err(Refusal::Host);
+        }
         check_origin(host, fields.origin)?;
-        check_site(fields.fetch_site)
+        check_opening(is_page, fields)
     }
 
     /// Refuses a request without a key that opens the name.

@@ -11,15 +11,15 @@ ghost use Rattle.dq_web.specs.Guards.{IsOpened};
 /// Without a key that opens its name no question is asked.
 pub fn a_question_has_its_key()
     ensures { (guard : Guard) (request : Request) (question : Question)
-        → (IsOpened guard.keys question.name (option_copied request.fields.authorization) → ⊥)
+        → (IsOpened guard.keys question.name (option_copied request.head.fields.authorization) → ⊥)
         → IsAsked guard request (asked.Question question) → ⊥ }
 {}
 
 /// A request that is neither POST nor DELETE asks for a look, which changes nothing.
 pub fn a_get_only_looks()
     ensures { (guard : Guard) (request : Request) (question : Question)
-        → IsQuestion guard request question → request.method.now ≢ codes "POST"
-        → request.method.now ≢ codes "DELETE" → IsLook question.line }
+        → IsQuestion guard request question → request.head.method.now ≢ codes "POST"
+        → request.head.method.now ≢ codes "DELETE" → IsLook question.line }
 {}
 
 /// An order of the console comes from the one method and path that give it, about what they say.

@@ -16,10 +16,11 @@ mod replies;
 mod status;
 
 pub use answering::{answered, document, healthy, refused};
-pub use asking::{Asked, Document, Form, Method, Question, ask};
+pub use asking::{Aim, Asked, Document, Form, Method, Question, Wish, ask, judge};
 pub use counters::{Class, Counters, Operations, Service, Turns};
-pub use cutting::{BODY_MOST, Cut, Fields, HEAD_MOST, Request, cut_off};
+pub use cutting::{BODY_MOST, Cut, Fields, HEAD_MOST, Head, Request, cut_off};
 pub use guard::Guard;
 pub use keys::{KeyEntry, Keys, KeysFault, OPERATOR};
 pub use places::{Place, place_of};
 pub use refusal::{Allowed, Refusal};
+pub use replies::Framing;

@@ -24,7 +24,7 @@ pub enum Place<'a> {
 }
 
 /// What stands before the first slash, and what behind it.
-fn at_slash(text: &str) -> Option<(&str, &str)>
+pub(crate) fn at_slash(text: &str) -> Option<(&str, &str)>
     ensures { IfSome result (λ parts. text.now ≡ parts.0.now ++ codes "/" ++ parts.1.now) }
 {
     match text.split_once('/') {

@@ -30,6 +30,8 @@ pub enum Refusal {
     Method(Allowed),
     /// The key does not open the path.
     Key,
+    /// What the path has is in no form that is accepted.
+    Accept,
     /// The search is not supported.
     Unsupported,
 }
@@ -38,10 +40,10 @@ impl Allowed {
     /// Returns the methods as the field Allow lists them (RFC 9110 section 10.2.1).
     pub fn list(self) -> &'static str {
         match self {
-            Allowed::Get => "GET",
+            Allowed::Get => "GET, HEAD",
             Allowed::Post => "POST",
             Allowed::Delete => "DELETE",
-            Allowed::GetAndPost => "GET, POST",
+            Allowed::GetAndPost => "GET, HEAD, POST",
         }
     }
 }
@@ -59,6 +61,7 @@ impl Refusal {
             Refusal::Path => "path",
             Refusal::Method(_) => "method",
             Refusal::Key => "key",
+            Refusal::Accept => "accept",
             Refusal::Unsupported => "unsupported",
         }
     }

@@ -1,11 +1,12 @@
 //! Responses as octets (RFC 9112 section 2.1).
 ghost use Rattle.std.specs.Prelude.{◌≡◌, ◌++◌, length, IfOk, OnOk};
 ghost use Rattle.std.specs.Fmt.{decimal};
-ghost use Rattle.dq_web.specs.Responses.{content_type, extra_fields, has_content, guarding_fields, closing_field, type_field, length_field, body_fields, head_text, whole_head_text, response_text};
+ghost use Rattle.dq_web.specs.Responses.{content_type, extra_fields, has_content, guarding_fields, closing_field, date_field, warning_field, content, type_field, length_field, body_fields, head_text, whole_head_text, response_text};
 
 use crate::refusal::Allowed;
 use crate::status::Status;
 use dq_list::Listed;
+use httpdate::HttpDate;
 use std::alloc::{AllocError, Global};
 
 /// What a body is.
@@ -26,6 +27,19 @@ pub struct Reply {
     pub status: Status,
     pub kind: Kind,
     pub body: Listed<u8>,
+    /// Whether fuzzy matching was asked for, of which there is none.
+    pub is_literal: bool,
+}
+
+/// How a response is framed in the octets of its connection.
+#[derive(Clone, Copy, Debug)]
+pub struct Framing {
+    /// Whether no request is read behind it.
+    pub is_last: bool,
+    /// Whether it has no content, as a response to HEAD.
+    pub is_head: bool,
+    /// When it was made, if the clock says so.
+    pub date: Option<HttpDate>,
 }
 
 impl Kind {
@@ -51,10 +65,10 @@ fn extra_fields(status: Status) -> &'static str
 {
     match status {
         Status::Unauthorized => "WWW-Authenticate: Bearer\r\n",
-        Status::MethodNotAllowed(Allowed::Get) => "Allow: GET\r\n",
+        Status::MethodNotAllowed(Allowed::Get) => "Allow: GET, HEAD\r\n",
         Status::MethodNotAllowed(Allowed::Post) => "Allow: POST\r\n",
         Status::MethodNotAllowed(Allowed::Delete) => "Allow: DELETE\r\n",
-        Status::MethodNotAllowed(Allowed::GetAndPost) => "Allow: GET, POST\r\n",
+        Status::MethodNotAllowed(Allowed::GetAndPost) => "Allow: GET, HEAD, POST\r\n",
         _ => "",
     }
 }
@@ -149,22 +163,56 @@ fn put_body_fields(alloc: Global, head: &mut Vec<u8>, reply: &Reply) -> Result<(
     Ok(())
 }
 
+/// Adds when a response was made.
+fn put_date(head: &mut Vec<u8>, date: Option<HttpDate>) -> Result<(), AllocError>
+    ensures { OnOk result (head.new.items ≡ head.old.items ++ date_field date) }
+{
+    let Some(date) = date else {
+        return Ok(());
+    };
+    put(head, "Date: ")?;
+    head.extend_from_slice(&date.to_bytes())?;
+    put(head, "\r\n")?;
+    Ok(())
+}
+
+/// The field that says that matching was not fuzzy.
+fn warning_field(is_literal: bool) -> &'static str
+    ensures { result.now ≡ warning_field is_literal }
+{
+    if is_literal {
+        "Warning: 299 newtiron \"The fuzzymatching parameter is not supported. \
+        Only literal matching has been performed.\"\r\n"
+    } else {
+        ""
+    }
+}
+
 /// The whole head of a response.
-fn head_of(alloc: Global, reply: &Reply, is_last: bool) -> Result<Vec<u8>, AllocError>
-    ensures { IfOk result (λ head. head.items ≡ whole_head_text reply.now is_last) }
+fn head_of(alloc: Global, reply: &Reply, framing: Framing) -> Result<Vec<u8>, AllocError>
+    ensures { IfOk result (λ head. head.items ≡ whole_head_text reply.now framing) }
 {
     let mut head = head_start(alloc, reply.status)?;
-    put(&mut head, closing_field(is_last))?;
+    put_date(&mut head, framing.date)?;
+    put(&mut head, closing_field(framing.is_last))?;
+    put(&mut head, warning_field(reply.is_literal))?;
     put_body_fields(alloc, &mut head, reply)?;
     put(&mut head, "\r\n")?;
     Ok(head)
 }
 
-/// The octets of a response, the last one of its connection if that is said.
-pub(crate) fn printed(alloc: Global, reply: &Reply, is_last: bool) -> Result<Vec<u8>, AllocError>
-    ensures { IfOk result (λ octets. octets.items ≡ response_text reply.now is_last) }
+/// What is sent of a body.
+fn content(is_head: bool, body: &[u8]) -> &[u8]
+    ensures { result.now ≡ content is_head body.now }
 {
-    let mut octets = head_of(alloc, reply, is_last)?;
-    octets.extend_from_slice(reply.body.as_slice())?;
+    if is_head { &[] } else { body }
+}
+
+/// The octets of a response, as it is framed.
+pub(crate) fn printed(alloc: Global, reply: &Reply, framing: Framing) -> Result<Vec<u8>, AllocError>
+    ensures { IfOk result (λ octets. octets.items ≡ response_text reply.now framing) }
+{
+    let mut octets = head_of(alloc, reply, framing)?;
+    octets.extend_from_slice(content(framing.is_head, reply.body.as_slice()))?;
     Ok(octets)
 }

@@ -15,6 +15,7 @@ pub enum Status {
     Forbidden,
     NotFound,
     MethodNotAllowed(Allowed),
+    NotAcceptable,
     Conflict,
     TooLarge,
     Misdirected,
@@ -39,6 +40,7 @@ impl Status {
             Status::Forbidden => "403 Forbidden",
             Status::NotFound => "404 Not Found",
             Status::MethodNotAllowed(_) => "405 Method Not Allowed",
+            Status::NotAcceptable => "406 Not Acceptable",
             Status::Conflict => "409 Conflict",
             Status::TooLarge => "413 Content Too Large",
             Status::Misdirected => "421 Misdirected Request",
@@ -64,6 +66,7 @@ impl Status {
             Refusal::Path => Status::NotFound,
             Refusal::Method(allowed) => Status::MethodNotAllowed(allowed),
             Refusal::Key => Status::Unauthorized,
+            Refusal::Accept => Status::NotAcceptable,
             Refusal::Unsupported => Status::NotImplemented,
         }
     }

@@ -27,6 +27,8 @@ PATHS = [
 # What belongs to nobody, and what is the operator's.
 OPEN = {"/": "text/html", "/page.css": "text/css", "/page.js": "text/javascript", "/health": TEXT}
 OPERATORS = {"/metrics": "GET", "/backup": "POST"}
+# What a response says where fuzzy matching was asked for (PS3.18 section 8.3.4.2).
+LITERAL = '299 newtiron "The fuzzymatching parameter is not supported. Only literal matching has been performed."'
 # The statuses of the refusals of orders.
 REFUSED_ORDERS = {1: 400, 2: 400, 3: 409, 4: 507, 5: 404, 6: 404}
 
@@ -127,6 +129,47 @@ def counted(institution):
             for kind, count in zip(kinds, institution.records.counts())}
 
 
+def host_and_path(target, host):
+    """The host and the path of a target, which in absolute-form has the host itself (RFC 9112 section 3.2.2)."""
+    found = re.fullmatch(r"https?://([^/]*)(/.*)", target, re.S)
+    return found.groups() if found else (host, target)
+
+
+def is_plain(path):
+    """Whether no segment of a path goes up, or has a slash once it is decoded."""
+    segments = map(urllib.parse.unquote_to_bytes, path.split("/"))
+    return not any(segment in (b".", b"..") or b"/" in segment for segment in segments)
+
+
+def looking(method):
+    """A method, in which HEAD is GET."""
+    return "GET" if method == "HEAD" else method
+
+
+def place_of(path):
+    """Whose key opens a path, the words of a path below an institution, and its methods; none where nothing is."""
+    if path in OPEN:
+        return "", (), {"GET": path}
+    if path in OPERATORS:
+        return "*", (), {OPERATORS[path]: path}
+    whole = re.fullmatch("/([^/]*)/(.*)", path, re.S)
+    name, below = whole.groups() if whole else ("*", "")
+    found = [(re.fullmatch(pattern, below, re.S), methods) for pattern, methods in PATHS]
+    match, methods = next(((match, methods) for match, methods in found if match), (None, {}))
+    return (name, match.groups(), methods) if match and name != "*" else ("", (), {})
+
+
+def ranges_in(fields):
+    """The media types and their ranges that an Accept names."""
+    return {word.lower() for word in re.split(r"[,; \t]", fields.get("accept", ""))} if "accept" in fields else set()
+
+
+def key_in(fields):
+    """The key that an Authorization tells (RFC 9110 section 11.4, RFC 6750 section 2.1)."""
+    given = re.fullmatch(r"bearer +(\S+)", fields.get("authorization", ""), re.I)
+    return given[1] if given else None
+
+
 class Front:
     """The front over the institutions of a model, with a key for each name, and `*` for the operator."""
 
@@ -134,50 +177,54 @@ class Front:
         self.institutions, self.keys = {one.name: one for one in institutions}, keys
         self.hosts = {"127.0.0.1", "localhost", "[::1]"} | ({host} if host else set())
 
-    def answer(self, method, target, fields, body=b""):
-        """The answer to a request, whose fields have their names in lower case. Of what is the server's own, as the page, the metrics
-        and a backup, it has the status and the kind alone."""
-        path, _, query = target.partition("?")
-        host, origin, site = (fields.get(name) for name in ("host", "origin", "sec-fetch-site"))
-        if host is None or re.sub(r":[0-9]*$", "", host) not in self.hosts:
-            return refused(421, "host")
-        if origin not in (None, f"http://{host}", f"https://{host}") or site not in (None, "same-origin", "none"):
-            return refused(403, "origin")
-        if path in OPEN:
-            return Answer(200, OPEN[path]) if method == "GET" else refused(405, "method", Allow="GET")
-        if path in OPERATORS:
-            if method != OPERATORS[path]:
-                return refused(405, "method", Allow=OPERATORS[path])
-            return Answer(200, TEXT) if self.is_opened("*", fields) else self.unopened()
-        return self.answer_institution(method, path, query, fields, body)
-
-    def is_opened(self, name, fields):
-        given = re.fullmatch(r"Bearer +(\S+)", fields.get("authorization", ""))
-        return given is not None and self.keys.get(name) == given[1]
-
-    @staticmethod
-    def unopened():
-        return refused(401, "key", **{"WWW-Authenticate": "Bearer"})
-
-    def answer_institution(self, method, path, query, fields, body):
-        whole = re.fullmatch("/([^/]*)/(.*)", path, re.S)
-        name, below = whole.groups() if whole else ("", "")
-        found = [(re.fullmatch(pattern, below, re.S), methods) for pattern, methods in PATHS]
-        found = next(((match, methods) for match, methods in found if match), None)
-        if found is None:
-            return refused(404, "path")
-        match, methods = found
-        if method not in methods:
-            return refused(405, "method", Allow=", ".join(methods))
-        if not self.is_opened(name, fields) or name == "*":
-            return self.unopened()
+    def answer(self, method, target, fields, body=b"", is_old=False):
+        """The answer to a request, of HTTP/1.0 if that is said, whose fields have their names in lower case; that to HEAD is that to
+        GET. Of what is the server's own, as the page, the metrics and a backup, it has the status and the kind alone."""
+        why = self.judged(method, target, fields, is_old)
+        if why:
+            return why
+        path, _, query = host_and_path(target, None)[1].partition("?")
+        if path in OPEN or path in OPERATORS:
+            return Answer(200, OPEN.get(path, TEXT))
+        name, words, methods = place_of(path)
         institution = self.institutions.get(name)
         if institution is None:
             return refused(404, 6)
-        return self.perform(institution, methods[method], match.groups(), query, body)
+        return self.perform(institution, methods[looking(method)], words, query, fields, body)
+
+    def judged(self, method, target, fields, is_old=False):
+        """The refusal of a request by its head; None where its body is read."""
+        host, target = host_and_path(target, fields.get("host"))
+        path = target.partition("?")[0]
+        if "host" not in fields and not is_old or not is_plain(path):
+            return refused(400, "request")
+        why = self.not_admitted(host, path, fields)
+        if why:
+            return why
+        name, _, methods = place_of(path)
+        if not methods:
+            return refused(404, "path")
+        if looking(method) not in methods:
+            return refused(405, "method", Allow=", ".join("GET, HEAD" if one == "GET" else one for one in methods))
+        return None if path in OPEN or self.is_opened(name, fields) else refused(401, "key", **{"WWW-Authenticate": "Bearer"})
+
+    def not_admitted(self, host, path, fields):
+        """The refusal of another host, or of a page of another origin; the page itself may be opened from anywhere."""
+        host = (host or "").lower()
+        if re.sub(r":[0-9]*$", "", host) not in self.hosts:
+            return refused(421, "host")
+        origin, site = fields.get("origin"), fields.get("sec-fetch-site")
+        is_opening = path == "/" and fields.get("sec-fetch-dest") == "document"
+        if origin is not None and origin.lower() not in (f"http://{host}", f"https://{host}"):
+            return refused(403, "origin")
+        return None if site in (None, "same-origin", "none") or is_opening else refused(403, "origin")
+
+    def is_opened(self, name, fields):
+        given = key_in(fields)
+        return given is not None and self.keys.get(name) == given
 
     @staticmethod
-    def perform(institution, subject, words, query, body):
+    def perform(institution, subject, words, query, fields, body):
         records = institution.records
         if subject == "relational":
             return refused(501, "unsupported")
@@ -189,5 +236,11 @@ class Front:
             if number:
                 return refused(REFUSED_ORDERS[number], number)
             return Answer(201, JSON) if subject == "schedule" else Answer(204)
+        ranges = ranges_in(fields)
+        if ranges and not ranges & {DICOM_JSON, JSON, "application/*", "*/*"}:
+            return refused(406, "accept")
         uids = zip((services.STUDY, services.SERIES), words)
-        return answered(records, subject, query, {tag: data_sets.padded("UI", uid.encode()) for tag, uid in uids})
+        answer = answered(records, subject, query, {tag: data_sets.padded("UI", uid.encode()) for tag, uid in uids})
+        if answer.status in (200, 204) and "fuzzymatching=true" in query.split("&"):
+            answer.fields["Warning"] = LITERAL
+        return Answer(200, DICOM_JSON, b"[]", answer.fields) if answer.status == 204 and DICOM_JSON in ranges else answer

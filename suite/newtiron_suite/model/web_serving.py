@@ -3,6 +3,7 @@
 """
 import collections
 import contextlib
+import email.utils
 import hashlib
 import http.client
 import pathlib
@@ -24,7 +25,9 @@ FIXED = {"Cache-Control": "no-store", "X-Content-Type-Options": "nosniff", "Refe
 TOKEN = rb"[!#$%&'*+.^_`|~0-9A-Za-z-]+"
 KEY_LINE = re.compile(r"(\*|[A-Z0-9_]{1,16}) ([0-9a-fA-F]{64})")
 # The fields that count, each of which may stand once.
-SINGLE = {"host", "content-length", "transfer-encoding", "authorization", "origin", "sec-fetch-site", "expect"}
+SINGLE = {"host", "content-length", "transfer-encoding", "authorization", "origin", "sec-fetch-site", "sec-fetch-dest", "expect"}
+# Lists, whose values are joined (RFC 9110 section 5.3).
+LISTS = {"connection", "accept"}
 SERVICES = {C_ECHO: "echo", C_FIND: "find", C_STORE: "store", N_CREATE: "create", N_SET: "set"}
 OUTCOMES = {2: "accepted", 3: "rejected", 6: "released", 7: "aborted"}
 BOUNDS = (0.001, 0.005, 0.01, 0.05, 0.1, 0.5, 1)
@@ -32,7 +35,7 @@ HELP = {"rows": "Rows that are kept.", "rows_limit": "Rows that may be kept.", "
         "associations_total": "Associations since the start.", "operations_total": "Messages that were answered.",
         "turn_seconds": "Turns of all connections.", "memory_bytes": "Memory of the server."}
 
-Request = collections.namedtuple("Request", "method target fields body is_last extent is_expecting")
+Request = collections.namedtuple("Request", "method target fields body is_last extent is_expecting is_old")
 
 
 class Refused(Exception):
@@ -72,7 +75,8 @@ def fields_in(lines):
         name = field[1].decode().lower() if field else None
         if field is None or name in found and name in SINGLE:
             raise Refused(400, "request")
-        found[name] = field[2].decode("latin-1")
+        value = field[2].decode("latin-1")
+        found[name] = f"{found[name]},{value}" if name in LISTS and name in found else value
     return found
 
 
@@ -104,9 +108,10 @@ def cut_off(octets):
     fields = fields_in(lines)
     extent = end + 4 + length_in(fields)
     body = octets[end + 4:extent] if len(octets) >= extent else None
-    is_last = found[3] == b"0" or fields.get("connection", "").lower() == "close"
+    is_old = found[3] == b"0"
+    is_last = is_old or "close" in re.split(r"[,; \t]", fields.get("connection", "").lower())
     return Request(found[1].decode(), found[2].decode(), fields, body, is_last, extent,
-                   fields.get("expect", "").lower() == "100-continue")
+                   fields.get("expect", "").lower() == "100-continue" and not is_old, is_old)
 
 
 def check_start(line, octets):
@@ -129,8 +134,8 @@ class Keyed(web.Front):
         self.digests = digests
 
     def is_opened(self, name, fields):
-        given = re.fullmatch(r"Bearer (\S+)", fields.get("authorization", ""))
-        return given is not None and name in self.digests.get(hashlib.sha256(given[1].encode()).hexdigest(), ())
+        given = web.key_in(fields)
+        return given is not None and name in self.digests.get(hashlib.sha256(given.encode()).hexdigest(), ())
 
 
 class Caller:
@@ -208,8 +213,14 @@ class WebService:
         except Refused as refused:
             caller.unsent, caller.octets, caller.is_over = spelled("", web.refused(*refused.args), True), b"", True
             return True
-        if request is None or request.body is None:
-            if request is None or not request.is_expecting or caller.was_told:
+        if request is None:
+            return False
+        if request.body is None:
+            why = self.front.judged(request.method, request.target, request.fields, request.is_old)
+            if why:
+                caller.unsent, caller.octets, caller.is_over = spelled(request.method, why, True), b"", True
+                return True
+            if not request.is_expecting or caller.was_told:
                 return False
             caller.unsent, caller.was_told = b"HTTP/1.1 100 Continue\r\n\r\n", True
             return True
@@ -220,8 +231,8 @@ class WebService:
         return True
 
     def answer(self, request):
-        path = request.target.partition("?")[0]
-        answer = self.front.answer(request.method, request.target, request.fields, request.body)
+        path = web.host_and_path(request.target, None)[1].partition("?")[0]
+        answer = self.front.answer(request.method, request.target, request.fields, request.body, request.is_old)
         self.keeping.keep()
         if answer.status == 200 and path in FILES:
             answer.body = (TOP / "web" / FILES[path]).read_bytes()
@@ -287,6 +298,7 @@ def spelled(method, answer, is_last):
     if answer.status != 204:
         kind = answer.kind if answer.kind.startswith("application/") else f"{answer.kind}; charset=utf-8"
         fields |= {"Content-Type": kind, "Content-Length": len(answer.body)}
+    fields["Date"] = email.utils.formatdate(usegmt=True)
     fields |= {**answer.fields, **({"Connection": "close"} if is_last else {})}
     head = f"HTTP/1.1 {answer.status} {http.client.responses[answer.status]}\r\n" + "".join(f"{name}: {value}\r\n" for name,
                                                                                             value in fields.items())

@@ -4,11 +4,12 @@
     keys        no key, a wrong one, another institution's and the operator's are refused with the same octets; files of keys, and
                 those that are refused
     hospitals   two hospitals with the same UIDs: each is shown its own rows
-    searches    studies, series, images, entries and steps, page by page, with keys and with words that are none
+    searches    studies, series, images, entries and steps, page by page, with keys and with words that are none; forms that are accepted,
+                and the warning of fuzzy matching
     entries     what is sent to the worklist is found by DICOM and by HTTP, and withdrawn; each refusal of both
     looks       nothing that is looked at changes anything
-    methods     other methods, and paths that are none
-    hosts       names of the host, origins and sites that are refused
+    methods     other methods, HEAD, paths that are none, and those that go up
+    hosts       names of the host, targets in absolute-form, origins and sites that are refused, links of other sites
     grammar     requests that are none, that are too long, that come in pieces or many at once; 100-continue, and HTTP/1.0
     slow        clients that say nothing or read nothing: others are served beside them
     many        100 connections

@@ -10,6 +10,11 @@ from ..web_client import Speaker
 from .common import PROGRAM, Pair, entry_octets
 
 
+def undated(response):
+    """The octets of a response, without its Date."""
+    return re.sub(rb"\r\nDate: [^\r]*", b"", response.head), response.body
+
+
 def keys(tally, folder):
     with Pair(folder) as pair:
         tally.check("the file is its owner's alone", stat.S_IMODE((pair.folder / "keys").stat().st_mode) == 0o600)
@@ -22,19 +27,19 @@ def keys(tally, folder):
         heads = set()
         for what, key in refused.items():
             told = pair.compare(tally, what, "GET", "/NORTH/rs/studies", key=key)
-            heads.add((told.head, told.body))
+            heads.add(undated(told))
         told = pair.compare(tally, "no such institution", "GET", "/EAST/rs/studies", key=north)
-        heads.add((told.head, told.body))
+        heads.add(undated(told))
         for field in (f"Authorization: Basic {north}", f"Authorization: {north}", "Authorization: Bearer",
                       f"Authorization:Bearer\t{north}",
                       f"X-Authorization: Bearer {north}", f"Cookie: key={north}"):
             told = pair.compare(tally, field.replace(north, "KEY"), "GET", "/NORTH/rs/studies", fields=[field])
-            heads.add((told.head, told.body))
+            heads.add(undated(told))
         tally.check("each refusal has the same octets", len(heads) == 1, heads)
         tally.check("a key in the query", pair.ask("GET", f"/NORTH/rs/studies?key={north}").status == 401)
         for name in ("NORTH", "SOUTH"):
             told = pair.ask("GET", "/metrics", name)
-            tally.check(f"the key of {name} is not the operator's", told.status == 401 and (told.head, told.body) in heads,
+            tally.check(f"the key of {name} is not the operator's", told.status == 401 and undated(told) in heads,
                         told.head)
             tally.check(f"a backup by {name}", pair.ask("POST", "/backup", name, body=b"x").status == 401)
         for target in ("/*/rs/studies", "/*/worklist", "/*/counts"):
@@ -46,9 +51,9 @@ def keys(tally, folder):
         pair.compare(tally, "an order without a key", "POST", "/NORTH/worklist", body=entry_octets("S1"))
         pair.compare(tally, "an order with another key", "POST", "/NORTH/worklist", "SOUTH", body=entry_octets("S1"))
         pair.compare(tally, "a withdrawal without a key", "DELETE", "/NORTH/worklist/S1")
-        for scheme in ("bearer", "BEARER"):
+        for scheme in ("bearer", "BEARER", "Bearer ", "bearer   "):
             told = pair.ask("GET", "/NORTH/counts", fields=[f"Authorization: {scheme} {north}"])
-            tally.check(f"the scheme as {scheme}", told.status in (200, 401), told.status)
+            tally.check(f"the scheme as {scheme!r}", told.status == 200, told.status)
         pair.is_right(tally, "keys")
     key_files(tally, folder)
     key_tool(tally, folder)

@@ -1,6 +1,8 @@
 """Methods, hosts, and requests that are none."""
+import email.utils
 import random
 import re
+import time
 
 from ..client import HOST
 from .common import BODY_MOST, SEED, Pair, entry_octets, spoken
@@ -10,31 +12,34 @@ def methods(tally, folder):
     with Pair(folder) as pair:
         for target in ("rs/studies", "rs/studies/1.2/series", "rs/studies/1.2/series/1.3/instances", "worklist", "worklist/S1",
                        "steps", "counts"):
-            for method in ("GET", "POST", "PUT", "DELETE", "PATCH", "OPTIONS", "get", "PROPFIND", "X" * 20):
+            for method in ("GET", "HEAD", "POST", "PUT", "DELETE", "PATCH", "OPTIONS", "get", "PROPFIND", "X" * 20):
                 if (method, target) not in (("POST", "worklist"), ("DELETE", "worklist/S1")):
                     pair.compare(tally, "a method", method, f"/NORTH/{target}", "NORTH")
         pair.compare(tally, "a method before the key", "PUT", "/NORTH/worklist")
         for target in ("/", "/page.css", "/page.js", "/health", "/metrics"):
             for method in ("POST", "DELETE", "OPTIONS"):
                 pair.compare(tally, "a method", method, target, "*")
-        pair.compare(tally, "a method", "GET", "/backup", "*")
+            told = pair.ask("HEAD", target, "*")
+            tally.check(f"HEAD {target}", told.status == 200 and int(told.fields["content-length"]) > 0 and not told.faults, told.head)
+        for method in ("GET", "HEAD"):
+            pair.compare(tally, "a method", method, "/backup", "*")
         for target in ("/x", "/page.html", "//", "/NORTH", "/NORTH/", "/NORTH/x", "/NORTH//rs/studies", "/NORTH/rs",
                        "/NORTH/rs/studies/", "/NORTH/rs/studies/1.2",
                        "/NORTH/rs/studies/1.2/series/", "/NORTH/rs/studies/1.2/series/1.3",
                        "/NORTH/rs/studies/1.2/series/1.3/instances/", "/NORTH/counts/",
-                       "/NORTH/steps/1", "/NORTH/../SOUTH/counts", "/NORTH/%77orklist", "/health/", "/Health", "/favicon.ico",
+                       "/NORTH/steps/1", "/NORTH/%77orklist", "/health/", "/Health", "/favicon.ico",
                        "/metrics/x", "/NORTH/metrics", "*"):
-            if target != "/NORTH/../SOUTH/counts":
-                pair.compare(tally, "a path that is none", "GET", target, "NORTH")
-        told = pair.ask("GET", "/NORTH/../SOUTH/counts", "SOUTH")
-        tally.check("a path goes nowhere up", told.status in (400, 404), told.status)
+            pair.compare(tally, "a path that is none", "GET", target, "NORTH")
+        for path in ("/NORTH/../SOUTH/counts", "/NORTH/%2e%2E/SOUTH/counts", "/NORTH/.%2e/SOUTH/counts", "/NORTH/./counts",
+                     "/NORTH%2Fcounts", "/NORTH/..%2fSOUTH/counts", "/NORTH/worklist/S%2F1", "/NORTH/rs/studies/..%2F../series"):
+            told = pair.ask("GET", path, "SOUTH")
+            tally.check(f"a path that goes up: {path}", told.status == 400 and told.json() == {"refused": "request"}, told.head)
         with pair.connect() as speaker:
             speaker.send(speaker.request("HEAD", "/") + speaker.request("GET", "/health"))
             told = speaker.response(is_head=True)
             after = speaker.response()
-            tally.check("HEAD has no body", told.status in (200, 405) and (after is None or after.body == b"ok\n"), told.head,
+            tally.check("HEAD has no body", told.status == 200 and after is not None and after.body == b"ok\n", told.head,
                         after and after.head)
-            tally.check("nothing is read behind HEAD", is_last(told) and after is None, told.head)
         pair.is_right(tally, "methods")
 
 
@@ -42,8 +47,12 @@ def hosts(tally, folder):
     with Pair(folder, web_host="dicom.hospital.example") as pair:
         port = pair.port
         for host in ("127.0.0.1", f"127.0.0.1:{port}", "localhost", "localhost:1", "[::1]", "[::1]:80", "dicom.hospital.example",
-                     "dicom.hospital.example:443"):
+                     "dicom.hospital.example:443", "LOCALHOST", f"LocalHost:{port}", "DICOM.Hospital.Example"):
             pair.compare(tally, f"Host {host}", "GET", "/NORTH/counts", "NORTH", host=host)
+            for target in (f"http://{host}/NORTH/counts", f"https://{host}/NORTH/rs/studies"):
+                pair.compare(tally, "a target in absolute-form", "GET", target, "NORTH", host="evil.example")
+        for target in ("http://evil.example/health", "https://evil.example:80/NORTH/counts", "http:///health", "ftp://localhost/health"):
+            pair.compare(tally, "a target in absolute-form", "GET", target, "NORTH")
         for host in ("evil.example", f"evil.example:{port}", "127.0.0.1.evil.example", "evil.example@127.0.0.1", "127.0.0.2",
                      "::1", "localhost.", "localhost:x", "localhost:80:80",
                      "hospital.example", "x.dicom.hospital.example", "127.0.0.1 evil.example", "0.0.0.0",
@@ -68,6 +77,11 @@ def hosts(tally, folder):
                                          ("GET", "/", None)):
                 told = pair.ask(method, target, "NORTH", body=body, fields=fields)
                 tally.check(f"{method} {target} with {fields}", told.status == 403 and not told.faults, told.status, told.faults)
+        for target in ("/", "/page.css", "/health", "/NORTH/counts"):
+            for dest in ("document", "iframe", "frame", "empty", "Document"):
+                told = pair.ask("GET", target, "NORTH", fields=["Sec-Fetch-Site: cross-site", f"Sec-Fetch-Dest: {dest}"])
+                wanted = 200 if (target, dest) == ("/", "document") else 403
+                tally.check(f"a link of another site to {target} into a {dest}", told.status == wanted and not told.faults, told.head)
         pair.is_right(tally, "hosts")
 
 
@@ -118,20 +132,33 @@ def is_last(response):
 LAST_ONES = [
     ("Connection: close", b"1.1", b"Connection: close\r\n", True), ("Connection: Close", b"1.1", b"Connection: Close\r\n", True),
     ("close among options", b"1.1", b"Connection: TE,\tClose , x\r\n", True), ("HTTP/1.0", b"1.0", b"", True),
+    ("close in the second field", b"1.1", b"Connection: TE\r\nConnection: keep-alive, close\r\n", True),
     ("keep-alive", b"1.1", b"Connection: keep-alive\r\n", False),
     ("other options", b"1.1", b"Connection: keep-alive, TE\r\n", False),
     ("an option that holds the word", b"1.1", b"Connection: not-close, closed\r\n", False), ("no option", b"1.1", b"", False),
 ]
 
 
+# One path of each kind of answer: by the front itself, and by the console.
+KINDS = [("/health", 200), ("/nowhere", 404), ("/NORTH/counts", 200), ("/NORTH/rs/studies", 204), ("/NORTH/worklist", 204),
+         ("/NORTH/steps?PatientID=1", 400), ("/NORTH/rs/series", 501)]
+
+
 def last_ones(tally, pair, host):
-    """The response behind which nothing is read says so, and no other one does."""
+    """The response behind which nothing is read says so, and no other one does, whatever kind of answer it is."""
+    key = b"Authorization: Bearer " + pair.keys["NORTH"].encode() + b"\r\n"
     for what, version, field, is_end in LAST_ONES:
-        head = b"GET /health HTTP/" + version + b"\r\nHost: " + host + b"\r\n" + field + b"\r\n"
-        told = spoken(pair, head * 2)
-        wanted = [True] if is_end else [False, False]
-        found = [(one.status, is_last(one)) for one in told]
-        tally.check(f"the last response: {what}", found == [(200, end) for end in wanted], found)
+        for path, status in KINDS:
+            head = b"GET " + path.encode() + b" HTTP/" + version + b"\r\nHost: " + host + b"\r\n" + key + field + b"\r\n"
+            told = spoken(pair, head * 2)
+            wanted = [True] if is_end else [False, False]
+            found = [(one.status, is_last(one)) for one in told]
+            tally.check(f"the last response: {what}: {path}", found == [(status, end) for end in wanted], found)
+            if is_end:
+                with pair.connect() as speaker:
+                    speaker.send(head)
+                    speaker.response()
+                    tally.check(f"it is closed at once: {what}: {path}", speaker.is_closed())
     heads = [b"GET " + path + b" HTTP/1.1\r\nHost: " + host + b"\r\n\r\n" for path in (b"/nowhere", b"/health")]
     told = spoken(pair, b"".join(heads))
     tally.check("a refusal that is not the last one", [(one.status, is_last(one)) for one in told] == [(404, False), (200, False)],
@@ -156,8 +183,12 @@ def grammar(tally, folder):
 
 def good(tally, pair, host):
     health = b"GET /health HTTP/1.1\r\nHost: " + host + b"\r\n"
-    told = spoken(pair, b"GET /health HTTP/1.1\r\n\r\n")
-    tally.check("no Host", len(told) == 1 and told[0].status in (400, 421), [one.status for one in told])
+    for version, status in ((b"1.1", 400), (b"1.0", 421)):
+        told = spoken(pair, b"GET /health HTTP/" + version + b"\r\n\r\n")
+        tally.check(f"no Host in {version}", [one.status for one in told] == [status], [one.status for one in told])
+    told = spoken(pair, health + b"\r\n")
+    tally.check("a Date", abs(email.utils.mktime_tz(email.utils.parsedate_tz(told[0].fields["date"])) - time.time()) < 5,
+                told[0].fields)
     for what, octets, count in (
             ("a request", health + b"\r\n", 1), ("one with 64 fields", health + b"A: b\r\n" * 63 + b"\r\n", 1),
             ("one after empty lines", b"\r\n" + health + b"\r\n", 1),
@@ -194,6 +225,24 @@ def bodies(tally, pair):
         tally.check("and then the answer", told.status == 201, told.head)
         pair.expected("POST", "/NORTH/worklist", "NORTH", body=entry)
         tally.check("and another request", speaker.ask("GET", "/health").status == 200)
+    expecting = ["Expect: 100-continue", "Content-Length: 100"]
+    for what, name, fields in (("no key", None, expecting), ("another key", "SOUTH", expecting),
+                               ("another host", "NORTH", [*expecting, "Origin: http://evil.example"])):
+        with pair.connect() as speaker:
+            speaker.send(speaker.request("POST", "/NORTH/worklist", name and pair.keys[name], fields=fields))
+            told = speaker.response()
+            tally.check(f"no 100 Continue for {what}", told is not None and told.status in (401, 403) and is_last(told),
+                        told and told.head)
+    with pair.connect() as speaker:
+        head = speaker.request("POST", "/NORTH/worklist", key, fields=expecting)
+        speaker.send(head.replace(b"HTTP/1.1", b"HTTP/1.0") + bytes(100))
+        told = speaker.response()
+        tally.check("no 100 Continue in HTTP/1.0", told is not None and told.status == 400, told and told.head)
+    with pair.connect() as speaker:
+        speaker.send(speaker.request("POST", "/NORTH/worklist", fields=["Content-Length: 1000000"]))
+        told = speaker.response()
+        tally.check("a request without a key is refused before its body comes", told is not None and told.status == 401
+                    and speaker.is_closed(), told and told.head)
     with pair.connect() as speaker:
         entry = entry_octets("B2")
         told = speaker.ask("POST", "/NORTH/worklist", key, body=entry, fields=["Expect: 100-continue"])
@@ -243,4 +292,4 @@ def random_octets(tally, pair, count=300):
             if one.faults:
                 tally.check("octets at random", False, one.faults, bytes(octets))
     tally.check("octets at random are refused in many ways", {204, 400, 401} <= statuses <= {200, 204, 400, 401, 403, 404, 405,
-                                                                                             413, 421, 431, 501}, statuses)
+                                                                                             406, 413, 421, 431, 501}, statuses)

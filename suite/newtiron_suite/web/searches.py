@@ -84,9 +84,36 @@ def searches(tally, folder):
         with pair.connect() as speaker:
             told = [speaker.ask("GET", f"/NORTH/{target}", pair.keys["NORTH"]).status for target in SEARCHES[:9]]
             tally.check("many on one connection", told == [200] * 7 + [204, 200], told)
+        forms(tally, pair)
         long_page(tally, pair)
         pair.is_right(tally, "searches")
     names(tally, folder)
+
+
+# What an Accept says, of which the first ones take DICOM JSON.
+ACCEPTS = [
+    [], ["*/*"], ["application/*"], ["application/dicom+json"], ["Application/DICOM+JSON"], ["application/json"],
+    ["text/html, application/json;q=0.5"], ["application/dicom+xml", "application/dicom+json"],
+    ["multipart/related; type=\"application/dicom+xml\"", "*/*;q=0.1"],
+    ["application/dicom+xml"], ["multipart/related; type=\"application/dicom+xml\""], ["text/html"], ["text/*", "image/png"],
+    ["application/dicom+jsonx"],
+]
+
+
+def forms(tally, pair):
+    """The form of answers that is asked for, and the warning of fuzzy matching (PS3.18 sections 8.3.4 and 10.6)."""
+    for accepts in ACCEPTS:
+        given = [f"Accept: {accept}" for accept in accepts]
+        for target in ("rs/studies?PatientID=P1", "rs/studies?PatientName=NOBODY", "worklist?Modality=MR", "steps", "counts"):
+            told = pair.ask("GET", f"/NORTH/{target}", "NORTH", fields=given)
+            wanted = pair.expected("GET", f"/NORTH/{target}", "NORTH", fields=[f"Accept: {', '.join(accepts)}"] if accepts else ())
+            tally.check(f"{target} with {given}", (told.status, told.body) == (wanted.status, wanted.body) and not told.faults,
+                        told.head, wanted.status)
+    for target in ("rs/studies?fuzzymatching=true&PatientName=DOE*", "rs/studies?PatientName=NOBODY&fuzzymatching=true",
+                   "rs/studies?fuzzymatching=false", "rs/studies?fuzzymatching=true&Nothing=1"):
+        told = pair.compare(tally, "fuzzy matching", "GET", f"/NORTH/{target}", "NORTH")
+        is_warned = "fuzzymatching=true" in target and "Nothing" not in target
+        tally.check(f"a warning of {target}", ("warning" in told.fields) == is_warned, told.fields)
 
 
 def long_page(tally, pair, count=97):

@@ -21,8 +21,8 @@ def web_key_of_anybody():
 
 def web_rows_of_the_first():
     """What is asked of any institution is answered of the first."""
-    @of_front("answer_institution")
-    def answer_institution(self, right, *words):
+    @of_front("answer")
+    def answer(self, right, *words):
         kept, first = self.institutions, next(iter(self.institutions.values()))
         self.institutions = dict.fromkeys(kept, first)
         try:
@@ -73,6 +73,32 @@ def web_takes_two_hosts():
 def web_sends_a_body_to_head():
     right = web_serving.spelled
     web_serving.spelled = lambda method, *words: right("GET", *words)
+
+
+def web_stays_open():
+    """No connection is closed by what it was answered."""
+    @of_front("answer_next", web_serving.WebService)
+    def answer_next(self, right, caller):
+        told = right(self, caller)
+        caller.is_over = False
+        return told
+
+
+def web_paths_go_up():
+    """Segments of paths may be anything."""
+    web.is_plain = lambda path: True
+
+
+def web_bids_anybody_go_on():
+    """A body is awaited whatever its head says."""
+    @of_front("judged", web_serving.Keyed)
+    def judged(self, right, *words):
+        why = right(self, *words)
+        return why if why and why.status not in (401, 403) else None
+
+
+def web_gives_what_is_not_accepted():
+    web.ranges_in = lambda fields: set()
 
 
 def web_waits_for_one():

@@ -2,8 +2,8 @@
 
 use dq_list::Listed;
 use dq_web::{
-    Allowed, Asked, Counters, Cut, Form, Guard, Keys, KeysFault, Question, Refusal, Service,
-    answered, ask, cut_off, refused,
+    Allowed, Asked, Counters, Cut, Form, Framing, Guard, Keys, KeysFault, Question, Refusal,
+    Service, Wish, answered, ask, cut_off, judge, refused,
 };
 use std::alloc::Global;
 use std::test::Fail;
@@ -33,12 +33,28 @@ fn guard_of(alloc: Global) -> Result<Guard, Fail> {
     })
 }
 
+fn framing_of(is_last: bool, is_head: bool) -> Framing {
+    Framing {
+        is_last,
+        is_head,
+        date: None,
+    }
+}
+
 fn told_of(alloc: Global, form: Form, told: &[u8]) -> Result<Vec<u8>, Fail> {
+    told_as(alloc, form, told, false)
+}
+
+fn told_as(alloc: Global, form: Form, told: &[u8], is_wished: bool) -> Result<Vec<u8>, Fail> {
     let question = Question {
         line: Listed::empty(alloc),
         form,
         name: Listed::copy_of(alloc, b"NORTH")?,
-        is_last: false,
+        wish: Wish {
+            wants_array: is_wished,
+            is_fuzzy: is_wished,
+        },
+        framing: framing_of(false, false),
     };
     let mut counters = Counters::default();
     counters.accept();
@@ -52,13 +68,13 @@ fn requests_are_cut_off(rt: HostRuntime) -> Result<(), Fail> {
     let Cut::Whole(request) = cut_off(EXAMPLE) else {
         return Err("no request")?;
     };
-    assert_eq!(rt; request.target, b"/hello.txt".as_slice());
+    assert_eq!(rt; request.head.target, b"/hello.txt".as_slice());
     assert_eq!(rt;
-        request.fields.host.unwrap_or(b""),
+        request.head.fields.host.unwrap_or(b""),
         b"www.example.com".as_slice()
     );
     assert_eq!(rt; request.extent, EXAMPLE.len());
-    assert!(rt; !request.is_last);
+    assert!(rt; !request.head.is_last);
     assert!(rt;
         matches!(
             cut_off(b"GET /hello.txt HTTP/1.1\r\nUser-"),
@@ -66,7 +82,12 @@ fn requests_are_cut_off(rt: HostRuntime) -> Result<(), Fail> {
         )
     );
     let waiting = b"PUT / HTTP/1.1\r\nExpect: 100-continue\r\nContent-Length: 9\r\n\r\n";
-    assert!(rt; matches!(cut_off(waiting), Cut::Expecting));
+    let Cut::Begun(head) = cut_off(waiting) else {
+        return Err("no head")?;
+    };
+    assert!(rt; head.is_expecting());
+    let refusal = judge(rt.alloc(), &guard_of(rt.alloc())?, &head)?;
+    assert!(rt; matches!(refusal, Some(Refusal::Request)));
     let chunked = b"POST / HTTP/1.1\r\nTransfer-Encoding: chunked\r\n\r\n";
     assert!(rt; matches!(cut_off(chunked), Cut::Refused(Refusal::Coding)));
     let long = b"POST / HTTP/1.1\r\nContent-Length: 1048577\r\n\r\n";
@@ -112,7 +133,7 @@ fn entries_are_asked(rt: HostRuntime) -> Result<(), Fail> {
     let Cut::Whole(request) = cut_off(ENTRY) else {
         return Err("no request")?;
     };
-    assert!(rt; request.is_last);
+    assert!(rt; request.head.is_last);
     let Asked::Question(question) = ask(rt.alloc(), &guard, &request)? else {
         return Err("no question")?;
     };
@@ -133,6 +154,11 @@ fn answers_are_sent(rt: HostRuntime) -> Result<(), Fail> {
     let none = told_of(rt.alloc(), Form::Answers, b"end 0\n")?;
     assert!(rt; none.starts_with(b"HTTP/1.1 204 No Content\r\n"));
     assert!(rt; none.ends_with(b"frame-ancestors 'none'\r\n\r\n"));
+    let none = told_as(rt.alloc(), Form::Answers, b"end 0\n", true)?;
+    assert!(rt; none.ends_with(b"\r\nContent-Length: 2\r\n\r\n[]"));
+    assert!(rt;
+        none.windows(25).any(|octets| octets == b"\r\nWarning: 299 newtiron \"".as_slice())
+    );
     let word = told_of(rt.alloc(), Form::Answers, b"refused keyword a\"b\n")?;
     assert!(rt; word.starts_with(b"HTTP/1.1 400 Bad Request\r\n"));
     assert!(rt; word.ends_with(b"\r\n\r\n{\"refused\":\"keyword a\\\"b\"}"));
@@ -156,7 +182,11 @@ fn metrics_are_sent(rt: HostRuntime) -> Result<(), Fail> {
     assert!(rt; text.contains("\nnewtiron_turn_seconds_bucket{le=\"1\"} 0\n"));
     assert!(rt; text.contains("\nnewtiron_turn_seconds_bucket{le=\"+Inf\"} 1\n"));
     assert!(rt; text.contains("\nnewtiron_turn_seconds_sum 2.500000\n"));
-    let refused = refused(rt.alloc(), Refusal::Method(Allowed::GetAndPost), true)?;
+    let refused = refused(
+        rt.alloc(),
+        Refusal::Method(Allowed::GetAndPost),
+        framing_of(true, false),
+    )?;
     assert!(rt; refused.starts_with(b"HTTP/1.1 405 Method Not Allowed\r\n"));
     assert!(rt;
         refused

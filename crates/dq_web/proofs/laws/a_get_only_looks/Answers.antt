@@ -3,4 +3,4 @@ use Rattle.dq_web.proofs.laws.a_get_only_looks.Goals as goal
 
 pub returns : goal.returns
 returns c guard request question asked post delete =
-    IsLook-asks asked.method asked.place _ asked.query _ question asked.by_method asked.asks post delete
+    IsLook-asks asked.aim.method asked.aim.place _ asked.aim.query.now _ question asked.let_in.by_method asked.asks post delete
