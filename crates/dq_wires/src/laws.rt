@@ -3,10 +3,13 @@ ghost use Rattle.std.specs.Prelude.{◌≡◌, ◌≤◌, ℕ, IsTrue, List, [],
 ghost use Rattle.std.specs.List.{AllByRecursion, flat_map};
 ghost use Rattle.dq_config.specs.declared.config.Institution.{Institution};
 ghost use Rattle.dq_tables.specs.declared.row.Row.{Row};
+ghost use Rattle.dq_tables.specs.Keeping.{IsSettled};
 ghost use Rattle.dq_core.specs.declared.event.Event.{Event};
 ghost use Rattle.dq_core.specs.declared.event.Reply.{Reply};
 ghost use Rattle.dq_core.specs.Histories.{is_well_formed_history};
-ghost use Rattle.dq_core.specs.Shared.{replies, world_after};
+ghost use Rattle.dq_core.specs.declared.fault.Fault.{Fault};
+ghost use Rattle.dq_core.specs.Shared.{replies, turn, world_after};
+ghost use Rattle.dq_core.specs.Stepping.{IsPartOf};
 ghost use Rattle.dq_core.specs.Own.{owns, stream_of};
 ghost use Rattle.dq_core.specs.Owners.{owner};
 ghost use Rattle.dq_core.specs.Conversations.{arrivals, conversation_on, IsExactAt};
@@ -152,6 +155,24 @@ pub fn servings_are_exact<T: Tables>()
 {
     associations_are_answered_in_full();
 }
+
+/// Restart over wires. If a crash could leave only the rows as a serving began, then afterwards it
+/// leaves the rows of the plain server after what was answered, and nothing else. If the server then
+/// fails at an event, a crash leaves the rows after some first operations of the event, with or
+/// without the next one.
+pub fn servings_settle<T: Tables>()
+    ensures answered { (rows : List Row) (first last : Standing T) (acts : List Act) (cut : Cut) →
+        Served T.state rows first last acts cut → (T.state last.tables).honest →
+        IsSettled (T.state first.tables) → (r : List Row) → (T.state last.tables).may_leave r →
+        r ≡ (world_after first.institutions rows (served_events acts cut)).rows }
+    ensures failed { (rows : List Row) (first last new : Standing T) (acts : List Act) (cut : Cut)
+        (event : Event) (fault : Fault) →
+        Served T.state rows first last acts cut → Fails T.state last new event fault →
+        (T.state new.tables).honest → IsSettled (T.state first.tables) →
+        let world = world_after first.institutions rows (served_events acts cut) in
+        IsPartOf (turn first.institutions world event).operations world.rows
+        (T.state new.tables).rows (T.state new.tables).may_leave }
+{}
 
 /// Isolation on the wires. Of two servings, over any wires and any two keepers, in which what came
 /// on one institution's connections and from the console for it is the same, in the same order,
