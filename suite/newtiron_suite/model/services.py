@@ -86,8 +86,8 @@ def store(records, command, octets, syntax):
              (records.images, image, series, "IMAGE"))
     for place, key, above, level in parts:
         place.setdefault(key, (above, attributes_at(level, sent)))
-    kept = [attributes_at(level, place[key][1]) for place, key, _, level in parts]
-    return SUCCESS if all(any(element in one for one in kept) for element in sent) else B006
+    kept = [place[key][1] for place, key, _, _ in parts]
+    return SUCCESS if all(is_kept(element) and any(element in one for one in kept) for element in sent) else B006
 
 
 def is_kept(element):
