@@ -6,20 +6,16 @@ import subprocess
 import sys
 import tempfile
 
-TOP = pathlib.Path(__file__).resolve().parent.parent
-PROGRAM = pathlib.Path(os.environ.get("PROGRAM", TOP / "crates" / "dq_server" / "out" / "dq_server"))
-CONFIGURATION = TOP / "suite" / "configurations" / "large.toml"
+from newtiron_suite.model import compose, data_sets, matching, stores
+from newtiron_suite.model.messages import (C_ECHO, C_FIND, C_STORE, DATA_SET, NO_DATA_SET,
+                                           command_set, padded, sent, two)
+from newtiron_suite.model.upper_layer import EXPLICIT, pdu, request_pdu
+from newtiron_suite.paths import BUILT, CONFIGURATIONS
+
+PROGRAM = pathlib.Path(os.environ.get("PROGRAM", BUILT))
+CONFIGURATION = CONFIGURATIONS / "large.toml"
 MOST = 2.3
 MEDIUM, PAGE = 0, 64
-
-sys.path.insert(0, str(TOP / "suite" / "model"))
-
-import compose  # noqa: E402
-import data_sets  # noqa: E402
-import matching  # noqa: E402
-import stores  # noqa: E402
-from messages import C_ECHO, C_FIND, C_STORE, DATA_SET, NO_DATA_SET, command_set, padded, sent, two  # noqa: E402
-from upper_layer import EXPLICIT, pdu, request_pdu  # noqa: E402
 
 RELEASE = pdu(0x05, bytes(4))
 ECHO = sent(1, command_set([(0x0002, padded(compose.CLASSES["echo"])), (0x0100, two(C_ECHO)), (0x0110, two(1)),

@@ -8,7 +8,7 @@ import subprocess
 import time
 
 from measure import CONFIGURATION, ECHO, PROGRAM, associate, store
-from client import HOST, Client, Serving, free_port, until
+from newtiron_suite.client import HOST, Client, Serving, free_port, until
 
 LONGEST = 90
 QUICK_ACK = getattr(socket, "TCP_QUICKACK", 12)

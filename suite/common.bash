@@ -1,8 +1,9 @@
-# What the suites share, to be sourced: the folders `top` and `work` (the latter is removed at the end), an empty file
+# What the suites share, to be sourced: the folders `top` and `work` (the latter is removed at the end), the models' commands in `models`, an empty file
 # $work/nothing, the numbers of suite/counts in `counts`, comparisons that are counted, and runs in which an allocation is refused
 # (MOST_ALLOCATIONS is where a suite gives up).
 set -u
 top=$(cd "$(dirname "${BASH_SOURCE[0]}")/.." && pwd)
+models=$top/suite/models
 work=$(mktemp -d)
 trap 'rm -rf "$work"' EXIT
 passed=0

@@ -1,4 +1,6 @@
 //! Two hospitals store the same instance, in a store of files in memory, one of which stops.
+mod reopening;
+
 use dq_config::Config;
 use dq_core::{Event, Outcome, Reply, run, well_formed};
 use dq_list::Listed;

@@ -1,12 +1,14 @@
 -- What is cut out for a level is of that level, and the attributes that are kept are those of the levels.
-use Rattle.std.proofs.Common.{◌≡◌, Bool, true, false, ◌||◌, List, [], ◌∷◌, ◌++◌, filter, refl, ◌∙◌, ap, if◌then◌else◌}
+use Rattle.std.proofs.Common.{◌≡◌, Bool, true, false, ◌||◌, List, [], ◌∷◌, ◌++◌, filter, refl, sym, ◌∙◌, ap, subst, if◌then◌else◌}
 use Rattle.std.specs.List.{list_all, list_any}
-use Rattle.std.proofs.lemmas.Bool.{and_parts}
+use Rattle.std.proofs.lemmas.Bool.{and_parts, false≢true}
 use Rattle.dq_vr.specs.declared.Tag.{Tag}
 use Rattle.dq_dataset.specs.declared.data_set.Element.{Element}
 use Rattle.dq_dataset.specs.Tree.{ElementList}
 use Rattle.dq_dataset.specs.View.{as_elements, elements_of, has_tag}
 use Rattle.dq_dataset.specs.Editing.{cut_out, is_listed}
+use Rattle.dq_dataset.specs.Same.{has_element, same_element}
+use Rattle.dq_dataset.proofs.Same.{same_is_equal}
 use Rattle.dq_dataset.proofs.Views.{as_elements-elements_of, elements_of-as_elements}
 use Rattle.dq_vr.specs.StudyRoot.{kept_attributes}
 use Rattle.dq_vr.specs.StudyRoot.{study_attributes, series_attributes, image_attributes}
@@ -27,14 +29,22 @@ pub cut_has_only : (tags : List Tag) (d : ElementList) → has_only tags (cut_ou
 cut_has_only tags d =
     ap (list_all (is_listed tags)) (elements_of-as_elements (filter (is_listed tags) (elements_of d))) ∙ all_passed (is_listed tags) (elements_of d)
 
-whole_filter : {X : Type 0} (p : X → Bool) (xs : List X) → list_all p xs ≡ true → filter p xs ≡ xs
-whole_filter p [] all = refl
-whole_filter p (x ∷ xs) all =
-    let parts = and_parts (p x) (list_all p xs) all in
-    rw parts.0 (ap (λ ys. x ∷ ys) (whole_filter p xs parts.1))
+-- an element of another level is not in a data set that keeps to its level
+other_step : (tags : List Tag) (x e : Element) (same rest : Bool) → same_element x e ≡ same → is_listed tags x ≡ true → is_listed tags e ≡ false
+    → rest ≡ false → (same || rest) ≡ false
+other_step tags x e true rest is listed unlisted none =
+    absurd (false≢true (sym unlisted ∙ subst (λ (y : Element). is_listed tags y ≡ true) ((same_is_equal x e).0 is) listed))
+other_step tags x e false rest is listed unlisted none = none
 
-pub cut_is_whole : (tags : List Tag) (d : ElementList) → has_only tags d ≡ true → cut_out tags d ≡ d
-cut_is_whole tags d only = ap as_elements (whole_filter (is_listed tags) (elements_of d) only) ∙ as_elements-elements_of d
+none_among : (tags : List Tag) (e : Element) (xs : List Element) → list_all (is_listed tags) xs ≡ true → is_listed tags e ≡ false
+    → list_any (λ (held : Element). same_element held e) xs ≡ false
+none_among tags e [] all unlisted = refl
+none_among tags e (x ∷ xs) all unlisted =
+    let parts = and_parts (is_listed tags x) (list_all (is_listed tags) xs) all in
+    other_step tags x e (same_element x e) _ refl parts.0 unlisted (none_among tags e xs parts.1 unlisted)
+
+pub has_no_other : (tags : List Tag) (d : ElementList) (e : Element) → has_only tags d ≡ true → is_listed tags e ≡ false → has_element d e ≡ false
+has_no_other tags d e only unlisted = none_among tags e (elements_of d) only unlisted
 
 -- ---- the attributes that are kept
 

@@ -20,7 +20,7 @@ use Rattle.dq_tables.specs.Rows.{Record, Edit}
 use Rattle.dq_tables.specs.Keys.{uid_at}
 use Rattle.dq_tables.specs.Serving.{first_refusal, refusal_or}
 use Rattle.dq_vr.specs.StudyRoot.{study_attributes, series_attributes, image_attributes}
-use Rattle.dq_store.specs.Storing.{Instance, Kept, kept_among, instance_in, names_instance, standing_attributes, is_kept_whole, stored_status, stored_edits, instance_refusals, is_kept_elsewhere, has_series_elsewhere}
+use Rattle.dq_store.specs.Storing.{Instance, Kept, kept_among, instance_in, names_instance, data_set_afterwards, is_in_one_of, is_kept_whole, stored_status, stored_edits, instance_refusals, is_kept_elsewhere, has_series_elsewhere}
 use Rattle.dq_store.specs.Views.{kept_status, instance_stored}
 use Rattle.dq_store.proofs.Fitting.{is_tag_listed, listed_by_tag, uid_of_cut}
 
@@ -69,34 +69,6 @@ cut_twice tags d listed =
 
 -- ---- whether what was sent is kept whole
 
-none_step : {X : Type 0} (f : X → Bool) (x : X) (kept : List X) (b : Bool) → (b ≡ true → f x ≡ false) → list_any f kept ≡ false
-    → list_any f (if b then x ∷ kept else kept) ≡ false
-none_step f x kept true none rest = rw (none refl) rest
-none_step f x kept false none rest = rest
-
-none_kept : {X : Type 0} (f q : X → Bool) → ((x : X) → q x ≡ true → f x ≡ false) → (xs : List X) → list_any f (filter q xs) ≡ false
-none_kept f q none [] = refl
-none_kept f q none (x ∷ xs) = none_step f x (filter q xs) (q x) (none x) (none_kept f q none xs)
-
-no_other : (tags : List Tag) (held e : Element) (same : Bool) → same_element held e ≡ same → AllListed tags kept_attributes
-    → is_listed kept_attributes e ≡ false → is_listed tags held ≡ true → same ≡ false
-no_other tags held e false s listed unlisted there = refl
-no_other tags held e true s listed unlisted there =
-    let is : held ≡ e = (same_is_equal held e).0 s in
-    absurd (false≢true (sym unlisted ∙ listed_too tags kept_attributes listed e (subst (λ (x : Element). is_listed tags x ≡ true) is there)))
-
-has_none : (tags : List Tag) (d : ElementList) (e : Element) → AllListed tags kept_attributes → is_listed kept_attributes e ≡ false
-    → has_element (cut_out tags d) e ≡ false
-has_none tags d e listed unlisted =
-    ap (list_any (λ (held : Element). same_element held e)) (elements_of-as_elements (filter (is_listed tags) (elements_of d)))
-    ∙ none_kept (λ (held : Element). same_element held e) (is_listed tags)
-    (λ held there. no_other tags held e (same_element held e) refl listed unlisted there) (elements_of d)
-
-stands_none : (o : Option Record) (tags : List Tag) (d : ElementList) (e : Element) → AllListed tags kept_attributes → is_listed kept_attributes e ≡ false
-    → has_element (standing_attributes o tags d) e ≡ false
-stands_none (Some kept) tags d e listed unlisted = has_none tags _ e listed unlisted
-stands_none None tags d e listed unlisted = has_none tags d e listed unlisted
-
 swapped : (f a b : Bool) → (f && (a && b)) ≡ (a && (f && b))
 swapped true a b = refl
 swapped false true b = refl
@@ -115,29 +87,27 @@ whole_split : {X : Type 0} (f q : X → Bool) → ((x : X) → q x ≡ false →
 whole_split f q none [] = refl
 whole_split f q none (x ∷ xs) = whole_step f q x xs (q x) refl (none x) (whole_split f q none xs)
 
-standing_kept : (o : Option Record) (tags : List Tag) (d : ElementList) → AllListed tags kept_attributes
-    → standing_attributes o tags (cut_out kept_attributes d) ≡ standing_attributes o tags d
-standing_kept (Some kept) tags d listed = refl
-standing_kept None tags d listed = cut_twice tags d listed
+afterwards_kept : (o : Option Record) (tags : List Tag) (d : ElementList) → AllListed tags kept_attributes
+    → data_set_afterwards o tags (cut_out kept_attributes d) ≡ data_set_afterwards o tags d
+afterwards_kept (Some kept) tags d listed = refl
+afterwards_kept None tags d listed = cut_twice tags d listed
 
 whole_kept : (study series image : Option Record) (d : ElementList) → let k = cut_out kept_attributes d in
-    is_kept_whole (standing_attributes study study_attributes d) (standing_attributes series series_attributes d) (standing_attributes image image_attributes d) d
+    is_kept_whole (data_set_afterwards study study_attributes d) (data_set_afterwards series series_attributes d)
+    (data_set_afterwards image image_attributes d) d
     ≡ (not (has_other kept_attributes d)
-    && is_kept_whole (standing_attributes study study_attributes k) (standing_attributes series series_attributes k) (standing_attributes image image_attributes k) k)
+    && is_kept_whole (data_set_afterwards study study_attributes k) (data_set_afterwards series series_attributes k)
+    (data_set_afterwards image image_attributes k) k)
 unfolding is_kept_whole
 whole_kept study series image d =
-    let stands = λ (e : Element). has_element (standing_attributes study study_attributes d) e
-    || (has_element (standing_attributes series series_attributes d) e || has_element (standing_attributes image image_attributes d) e) in
-    whole_split stands (is_listed kept_attributes)
-    (λ e unlisted. rw (
-      stands_none study study_attributes d e study_kept unlisted,
-      stands_none series series_attributes d e series_kept unlisted,
-      stands_none image image_attributes d e image_kept unlisted,
-    ) refl) (elements_of d)
+    let is_there = λ (e : Element). is_listed kept_attributes e
+    && is_in_one_of (data_set_afterwards study study_attributes d) (data_set_afterwards series series_attributes d)
+    (data_set_afterwards image image_attributes d) e in
+    whole_split is_there (is_listed kept_attributes) (λ e unlisted. rw unlisted refl) (elements_of d)
     ∙ rw (
-      standing_kept study study_attributes d study_kept,
-      standing_kept series series_attributes d series_kept,
-      standing_kept image image_attributes d image_kept,
+      afterwards_kept study study_attributes d study_kept,
+      afterwards_kept series series_attributes d series_kept,
+      afterwards_kept image image_attributes d image_kept,
       elements_of-as_elements (filter (is_listed kept_attributes) (elements_of d)),
     ) refl
 

@@ -14,7 +14,7 @@ use Rattle.dq_dataset.proofs.Views.{elements_of-as_elements}
 use Rattle.dq_tables.specs.declared.row.Row.{Row}
 use Rattle.dq_tables.specs.Rows.{record_of}
 use Rattle.dq_tables.specs.Records.{data_set_of}
-use Rattle.dq_store.specs.Storing.{standing_attributes}
+use Rattle.dq_store.specs.Storing.{data_set_afterwards}
 
 -- an element is among those that are listed where it is listed, and is among them
 joined : (listed e_listed same rest : Bool) → (same ≡ true → listed ≡ e_listed)
@@ -54,7 +54,7 @@ has_in_cut tags d e =
     ∙ sym (ap (list_any (λ (held : Element). same_element held e)) (elements_of-as_elements (filter (is_listed tags) (elements_of d))))
 
 pub stands_in : (row : Option Row) (tags : List Tag) (sent : ElementList)
-    → standing_attributes (option_map record_of row) tags sent ≡ cut_out tags (unwrap_or (option_map (λ (r : Row). data_set_of r.octets) row) sent)
+    → data_set_afterwards (option_map record_of row) tags sent ≡ unwrap_or (option_map (λ (r : Row). data_set_of r.octets) row) (cut_out tags sent)
 stands_in (Some row) tags sent = refl
 stands_in None tags sent = refl
 

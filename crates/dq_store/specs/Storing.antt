@@ -13,7 +13,7 @@ use Rattle.dq_dataset.specs.Tree.{ElementList, no_elements}
 use Rattle.dq_dataset.specs.View.{elements_of}
 use Rattle.dq_dataset.specs.Reading.{reading}
 use Rattle.dq_dataset.specs.Canonical.{canonical}
-use Rattle.dq_dataset.specs.Editing.{cut_out}
+use Rattle.dq_dataset.specs.Editing.{cut_out, is_listed}
 use Rattle.dq_dataset.specs.Same.{has_element}
 use Rattle.dq_dataset.specs.Sieve.{is_over_limit}
 use Rattle.dq_vr.specs.StudyRoot.{kept_attributes}
@@ -166,24 +166,27 @@ stored_edits kept sent =
     else put_new kept.study (study_record sent)
     ++ (put_new kept.series (series_record sent) ++ Put (image_record sent) ∷ [])
 
--- the attributes of a level in the record that is there afterwards: in the kept one, or in what was
--- sent
-abbrev pub standing_attributes : Option Record → List Tag → ElementList → ElementList
-standing_attributes (Some kept) tags sent = cut_out tags (data_set_of kept.octets)
-standing_attributes None tags sent = cut_out tags sent
+-- the data set of the record that is there afterwards: of the kept one, or of the one that is made
+abbrev pub data_set_afterwards : Option Record → List Tag → ElementList → ElementList
+data_set_afterwards (Some kept) tags sent = data_set_of kept.octets
+data_set_afterwards None tags sent = cut_out tags sent
 
--- Each element that was sent is one of the attributes that are kept of a study, a series or an
--- image, and stands there with equal octets.
+abbrev pub is_in_one_of : ElementList → ElementList → ElementList → Element → Bool
+is_in_one_of study series image e =
+    has_element study e || (has_element series e || has_element image e)
+
+-- Each element that was sent is one of those that are kept of a stored object, and the record of the
+-- study, of the series or of the image has it with equal octets.
 unfoldable pub is_kept_whole : ElementList → ElementList → ElementList → ElementList → Bool
 is_kept_whole study series image sent =
-    list_all (λ (e : Element). has_element study e || (has_element series e || has_element image e))
+    list_all (λ (e : Element). is_listed kept_attributes e && is_in_one_of study series image e)
     (elements_of sent)
 
 unfoldable pub stored_status : Kept → Instance → ℕ
 stored_status kept sent =
-    let study = standing_attributes kept.study study_attributes sent.elements in
-    let series = standing_attributes kept.series series_attributes sent.elements in
-    let image = standing_attributes kept.image image_attributes sent.elements in
+    let study = data_set_afterwards kept.study study_attributes sent.elements in
+    let series = data_set_afterwards kept.series series_attributes sent.elements in
+    let image = data_set_afterwards kept.image image_attributes sent.elements in
     if is_kept_whole study series image sent.elements then success else elements_discarded
 
 -- An instance that is not refused is kept, and the status tells whether it is kept whole.

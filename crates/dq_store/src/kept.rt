@@ -7,7 +7,7 @@ ghost use Rattle.dq_archive.specs.Archives.{Looks};
 ghost use Rattle.dq_dataset.specs.Editing.{cut_out, is_listed};
 ghost use Rattle.dq_dataset.specs.Same.{has_element};
 ghost use Rattle.dq_tables.specs.Records.{data_set_of};
-ghost use Rattle.dq_vr.specs.StudyRoot.{study_attributes, series_attributes, image_attributes};
+ghost use Rattle.dq_vr.specs.StudyRoot.{kept_attributes, study_attributes, series_attributes, image_attributes};
 ghost use Rattle.dq_store.specs.Storing.{is_under_another, kept_refusals, finds_no_room, count_of, limit_refusals, instance_refusals, is_kept_whole};
 ghost use Rattle.dq_store.specs.Views.{instance_of, rows_among, unless_refused, records_kept, kept_status};
 
@@ -18,7 +18,7 @@ use dq_dataset::{DataSet, Element};
 use dq_dimse::status;
 use dq_tables::{Kind, Row, TableFault, Tables};
 use dq_vr::Tag;
-use dq_vr::study_root::{image_attributes, series_attributes, study_attributes};
+use dq_vr::study_root::{KEPT_ATTRIBUTES, image_attributes, series_attributes, study_attributes};
 use std::alloc::{AllocError, Global};
 
 /// The rows that are kept already of what is sent.
@@ -154,16 +154,6 @@ fn kept_data_set(alloc: Global, row: &Option<Row>) -> Result<Option<DataSet>, Al
     }
 }
 
-/// The data set that is kept, or else the one that is sent.
-fn kept_or_sent<'a>(kept: &'a Option<DataSet>, sent: &'a DataSet) -> &'a DataSet
-    ensures { result.now ≡ unwrap_or kept.now sent.now }
-{
-    match kept {
-        Some(kept) => kept,
-        None => sent,
-    }
-}
-
 /// Whether an element is one of some attributes.
 fn is_listed(tags: &[Tag], element: &Element) -> bool
     ensures { result ≡ is_listed tags.now element.now }
@@ -171,23 +161,48 @@ fn is_listed(tags: &[Tag], element: &Element) -> bool
     tags.iter().any(|tag| *tag == element.tag)
 }
 
-/// Whether an element is one of the attributes of a level, and stands in a data set.
+/// Whether an element is one of those that are kept of a stored object.
+fn is_kept(element: &Element) -> bool
+    ensures { result ≡ is_listed kept_attributes element.now }
+{
+    is_listed(&KEPT_ATTRIBUTES, element)
+}
+
+/// Whether an element is one of some attributes, and is in a data set.
 fn has_attribute(data_set: &DataSet, tags: &[Tag], element: &Element) -> bool
     ensures { result ≡ has_element (cut_out tags.now data_set.now) element.now }
 {
     is_listed(tags, element) && data_set.has(element)
 }
 
-/// Whether each element that is sent is one of the attributes that are kept at a level, and stands
-/// there with equal octets.
-#[tactic(auto, unfolding(crate::specs::Storing::is_kept_whole))]
-fn is_kept_whole(study: &DataSet, series: &DataSet, image: &DataSet, sent: &DataSet) -> bool
-    ensures { result ≡ is_kept_whole (cut_out study_attributes study.now)
-        (cut_out series_attributes series.now) (cut_out image_attributes image.now) sent.now }
+/// Whether the record of a level has an element afterwards: the record that is kept, whichever
+/// attributes it has, or else the level's attributes of what is sent.
+fn is_in_record(kept: &Option<DataSet>, tags: &[Tag], sent: &DataSet, element: &Element) -> bool
+    ensures { result ≡ has_element (unwrap_or kept.now (cut_out tags.now sent.now)) element.now }
 {
-    sent.elements().iter().all(|element| has_attribute(study, study_attributes(), element)
-        || has_attribute(series, series_attributes(), element)
-        || has_attribute(image, image_attributes(), element))
+    match kept {
+        Some(kept) => kept.has(element),
+        None => has_attribute(sent, tags, element),
+    }
+}
+
+/// Whether each element that is sent is one of those that are kept of a stored object, and the record
+/// of the study, of the series or of the image has it with equal octets.
+#[tactic(auto, unfolding(crate::specs::Storing::is_kept_whole))]
+fn is_kept_whole(
+    study: &Option<DataSet>,
+    series: &Option<DataSet>,
+    image: &Option<DataSet>,
+    sent: &DataSet,
+) -> bool
+    ensures { result ≡ is_kept_whole (unwrap_or study.now (cut_out study_attributes sent.now))
+        (unwrap_or series.now (cut_out series_attributes sent.now))
+        (unwrap_or image.now (cut_out image_attributes sent.now)) sent.now }
+{
+    sent.elements().iter().all(|element| is_kept(element)
+        && (is_in_record(study, study_attributes(), sent, element)
+            || is_in_record(series, series_attributes(), sent, element)
+            || is_in_record(image, image_attributes(), sent, element)))
 }
 
 /// The status of an instance that is not refused: whether elements of it are discarded (PS3.4
@@ -207,10 +222,7 @@ pub(crate) fn stored_status(
     let study = kept_data_set(alloc, &kept.study)?;
     let series = kept_data_set(alloc, &kept.series)?;
     let image = kept_data_set(alloc, &kept.image)?;
-    let study = kept_or_sent(&study, sent.data_set);
-    let series = kept_or_sent(&series, sent.data_set);
-    let image = kept_or_sent(&image, sent.data_set);
-    if is_kept_whole(study, series, image, sent.data_set) {
+    if is_kept_whole(&study, &series, &image, sent.data_set) {
         Ok(status::SUCCESS)
     } else {
         Ok(status::ELEMENTS_DISCARDED)

@@ -1,11 +1,11 @@
 //! Laws of C-STORE. Each function's contract is a law; its body changes nothing.
-ghost use Rattle.std.specs.Prelude.{◌≡◌, ◌≢◌, ◌⊎◌, ◌||◌, ℕ, Bool, true, false, List, [], Some};
+ghost use Rattle.std.specs.Prelude.{◌≡◌, ◌≢◌, ◌⊎◌, ◌||◌, ℕ, Bool, true, false, List, [], Some, Ok};
 ghost use Rattle.std.specs.List.{AllByRecursion};
 ghost use Rattle.std.specs.Result.{result_unwrap_or};
 ghost use Rattle.dq_list.specs.Octets.{AreOctets};
 ghost use Rattle.dq_dataset.specs.declared.header.Syntax.{Syntax};
 ghost use Rattle.dq_dataset.specs.declared.data_set.Element.{Element};
-ghost use Rattle.dq_dataset.specs.Tree.{no_elements};
+ghost use Rattle.dq_dataset.specs.Tree.{ElementList, no_elements};
 ghost use Rattle.dq_dataset.specs.Reading.{reading};
 ghost use Rattle.dq_dataset.specs.Editing.{is_listed};
 ghost use Rattle.dq_dataset.specs.Facts.{IsDataSet};
@@ -21,8 +21,8 @@ ghost use Rattle.dq_tables.specs.Finding.{record_at};
 ghost use Rattle.dq_tables.specs.Records.{data_set_of};
 ghost use Rattle.dq_tables.specs.Sound.{IsSound};
 ghost use Rattle.dq_vr.specs.StudyRoot.{study_attributes, series_attributes, image_attributes};
-ghost use Rattle.dq_store.specs.Levels.{is_of_its_level, stands_whole};
-ghost use Rattle.dq_store.specs.Storing.{instance_in, store_outcome};
+ghost use Rattle.dq_store.specs.Levels.{IsReadBack, is_of_its_level, is_kept_in, stands_whole};
+ghost use Rattle.dq_store.specs.Storing.{instance_in, keeps_too_much, store_outcome};
 
 use dq_dataset::laws::{editing_law, spelling_law, written_law};
 
@@ -102,10 +102,32 @@ pub fn records_keep_to_their_levels()
     written_law();
 }
 
-/// Over sound rows whose records hold attributes of their own level alone, an instance is answered
-/// 0000 exactly where each element that was sent stands afterwards, with equal octets, in the record
-/// of its study, of its series or of its image, and B006 where one does not (PS3.4 section B.2.3).
+/// The data sets of the records that an instance makes are read back from their octets.
+fn made_data_sets_are_read_back()
+    ensures { (octets : List ℕ) (syntax : Syntax) → AreOctets octets → (d : ElementList)
+        → reading syntax octets ≡ Ok d → keeps_too_much d ≡ false
+        → IsReadBack study_attributes d × IsReadBack series_attributes d × IsReadBack image_attributes d }
+{
+    spelling_law();
+    editing_law();
+    written_law();
+}
+
+/// Over sound rows, an instance is answered 0000 exactly if each element that was sent is one of
+/// those that are kept of a stored object and is afterwards, with equal octets, in the record of its
+/// study, of its series or of its image, and B006 if one is not (PS3.4 section B.2.3). If each record
+/// has only attributes of its own level, whatever is there is one of those that are kept.
 pub fn the_status_says_what_stands()
+    ensures kept { (h : List ℕ) (limits : Limits) (rows : List Row) (message : Message)
+        (syntax : Syntax) → AreOctets message.octets → IsSound rows
+        → (store_outcome limits (of h rows) message syntax).0 ≡ success
+        → is_kept_in (of h (after (by h (store_outcome limits (of h rows) message syntax).1) rows))
+        (instance_in (result_unwrap_or (reading syntax message.octets) no_elements)) ≡ true }
+    ensures cut { (h : List ℕ) (limits : Limits) (rows : List Row) (message : Message)
+        (syntax : Syntax) → AreOctets message.octets → IsSound rows
+        → (store_outcome limits (of h rows) message syntax).0 ≡ elements_discarded
+        → is_kept_in (of h (after (by h (store_outcome limits (of h rows) message syntax).1) rows))
+        (instance_in (result_unwrap_or (reading syntax message.octets) no_elements)) ≡ false }
     ensures whole { (h : List ℕ) (limits : Limits) (rows : List Row) (message : Message)
         (syntax : Syntax) → AreOctets message.octets → IsSound rows
         → AllByRecursion (λ (row : Row). is_of_its_level row ≡ true) rows
@@ -119,9 +141,7 @@ pub fn the_status_says_what_stands()
         → stands_whole (of h (after (by h (store_outcome limits (of h rows) message syntax).1) rows))
         (instance_in (result_unwrap_or (reading syntax message.octets) no_elements)) ≡ false }
 {
-    spelling_law();
-    editing_law();
-    written_law();
+    made_data_sets_are_read_back();
 }
 
 /// What holds of each row, and of any study, series and image, holds of each row afterwards: what is

@@ -23,6 +23,7 @@ module _ {Tables : Type 0} (state : Tables → State) where
     replied = λ rows events stood h. refl;
     institutions = ap (λ (x : Standing Tables). x.institutions) same;
     was_honest = λ h. rw same at h;
+    settles = λ h s. rw same s;
   }
   runs-serve old new (Answered event reply ∷ steps) (mid, stepped, rest) =
       let later : Serves state mid new steps = runs-serve mid new steps rest in
@@ -37,6 +38,7 @@ module _ {Tables : Type 0} (state : Tables → State) where
             cc;
         institutions = later.institutions ∙ stepped.institutions;
         was_honest = λ h. stepped.goes.was_honest (later.was_honest h);
+        settles = λ h s. later.settles h (stepped.goes.settles (later.was_honest h) s);
       }
   runs-serve old new (Asked number pending ∷ steps) (mid, asks, rest) =
       let later : Serves state mid new steps = runs-serve mid new steps rest in
@@ -47,4 +49,5 @@ module _ {Tables : Type 0} (state : Tables → State) where
             ∙ ap (λ (i : List Institution). replies_from i (world_after i rows events) (events_of steps)) looked.institutions;
         institutions = later.institutions ∙ looked.institutions;
         was_honest = λ h. looked.goes.was_honest (later.was_honest h);
+        settles = λ h s. later.settles h (looked.goes.settles (later.was_honest h) s);
       }

@@ -1,5 +1,5 @@
 -- Isolation on the wires: from the replies at an institution's own events to the octets that are written.
-use Rattle.std.proofs.Common.{◌≡◌, ◌<◌, ◌⊎◌, ◌==◌, ℕ, Bool, true, false, IsTrue, if◌then◌else◌, List, [], ◌∷◌, ◌++◌, map, length, refl, sym, ◌∙◌, ap, inl, inr, arith, append_assoc}
+use Rattle.std.proofs.Common.{◌≡◌, ◌<◌, ◌⊎◌, ◌==◌, ℕ, Bool, true, false, IsTrue, if◌then◌else◌, List, [], ◌∷◌, ◌++◌, map, length, refl, sym, ◌∙◌, ap, subst, inl, inr, arith, append_assoc}
 use Rattle.std.specs.Prelude.{filter}
 use Rattle.std.specs.List.{flat_map}
 use Rattle.std.proofs.lemmas.List.{map-append}
@@ -9,10 +9,11 @@ use Rattle.std.proofs.lemmas.Bool.Decides.{nat_tests}
 use Rattle.std.proofs.Math.Seq.{take-append_seam}
 use Rattle.dq_config.specs.declared.config.Institution.{Institution}
 use Rattle.dq_tables.specs.declared.row.Row.{Row}
-use Rattle.dq_tables.specs.Keeping.{State}
+use Rattle.dq_tables.specs.Keeping.{State, IsSettled}
 use Rattle.dq_core.specs.declared.event.Event.{Event}
 use Rattle.dq_core.specs.declared.event.Event.TheVariants as event
 use Rattle.dq_core.specs.declared.event.Reply.{Reply}
+use Rattle.dq_core.specs.declared.fault.Fault.{Fault}
 use Rattle.dq_core.specs.declared.event.Reply.TheVariants as reply
 use Rattle.dq_core.specs.Shared.{World, turn, world_after_turn, replies_from, world_from, first_world, replies, rows_within, world_after}
 use Rattle.dq_core.specs.Own.{owns, is_own_event, own, is_on_connection, replies_at}
@@ -25,11 +26,13 @@ use Rattle.std.specs.Prelude.{None}
 use Rattle.dq_wires.specs.Cuts.{joined_pieces}
 use Rattle.dq_wires.proofs.Cutting.{Joins, OfRequest, Adds, Formed, formed, formed-among, octets_from, joined-octets}
 use Rattle.dq_core.specs.Runs.{IsRun}
+use Rattle.dq_core.specs.Stepping.{IsPartOf, MayLeaveAfter}
 use Rattle.dq_core.specs.Renumbering.{KeepsOrder, with_other_number, renumbered_reply}
 use Rattle.dq_core.specs.Standing.{Standing}
 use Rattle.dq_wires.specs.Held.{reply_octets}
 use Rattle.dq_wires.specs.Steps.{Step, events_of, replies_of}
 use Rattle.dq_wires.specs.Steps.Step.{Answered, Asked}
+use Rattle.dq_wires.specs.Stepping.{Fails}
 use Rattle.dq_wires.specs.Turns.{Cut}
 use Rattle.dq_wires.specs.Serving.{Serves}
 use Rattle.dq_wires.specs.Servings.{Act, nothing_held, Served, served_steps, served_done, served_events, written_on, answered_on, IsFrontOf, OneBegins}
@@ -169,6 +172,29 @@ module _ {Tables : Type 0} (state : Tables → State) {rows : List Row} {first l
   served-replies =
       let serves : Serves state first last (served_steps acts cut) = comes-serve first last (served_steps acts cut) served.steps in
       serves.replied rows [] served.begins honest
+
+  pub served-settles : IsSettled (state first.tables) → IsSettled (state last.tables)
+  served-settles settled =
+      let serves : Serves state first last (served_steps acts cut) = comes-serve first last (served_steps acts cut) served.steps in
+      serves.settles honest settled
+
+  -- a fault at an event after it
+  pub served-fails : {new : Standing Tables} {event : Event} {fault : Fault} → Fails state last new event fault → (state new.tables).honest
+      → IsSettled (state first.tables)
+      → (let world = world_after first.institutions rows (served_events acts cut) in
+      IsPartOf (turn first.institutions world event).operations world.rows (state new.tables).rows (state new.tables).may_leave)
+  served-fails {new} {event} {fault} fails kept settled =
+      let serves : Serves state first last (served_steps acts cut) = comes-serve first last (served_steps acts cut) served.steps in
+      let part = subst (λ (i : List Institution). let world = world_after i rows (served_events acts cut) in
+      IsPartOf (turn i world event).operations world.rows (state new.tables).rows (MayLeaveAfter (state last.tables) (state new.tables)))
+      serves.institutions (fails.part rows (served_events acts cut) (serves.stands rows [] served.begins honest) kept) in
+      record {
+        done = part.done;
+        later = part.later;
+        whole = part.whole;
+        made = part.made;
+        crash = λ r left. part.crash r (serves.settles honest settled, left);
+      }
 
   pub served-rows : (state last.tables).rows ≡ (world_after first.institutions rows (served_events acts cut)).rows
   served-rows =

@@ -13,3 +13,4 @@ pub mod Serving
 pub mod Isolating
 pub mod Cutting
 pub mod Playing
+pub mod Exact

@@ -87,4 +87,5 @@ module _ {Tables : Type 0} {state : Tables → State} where
         replied = λ rows events stood honest. serves.replied rows events stood (looks.goes.was_honest honest);
         institutions = looks.institutions ∙ serves.institutions;
         was_honest = λ honest. serves.was_honest (looks.goes.was_honest honest);
+        settles = λ honest settled. looks.goes.settles honest (serves.settles (looks.goes.was_honest honest) settled);
       }

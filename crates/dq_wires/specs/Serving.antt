@@ -1,7 +1,7 @@
 -- What a server that stands for a history has come to after further steps.
 use Rattle.std.specs.Prelude.{◌≡◌, List, ◌++◌}
 use Rattle.dq_tables.specs.declared.row.Row.{Row}
-use Rattle.dq_tables.specs.Keeping.{State}
+use Rattle.dq_tables.specs.Keeping.{State, IsSettled}
 use Rattle.dq_core.specs.declared.event.Event.{Event}
 use Rattle.dq_core.specs.Shared.{replies_from, world_after}
 use Rattle.dq_core.specs.Standing.{Standing, StandsFor}
@@ -19,3 +19,6 @@ pub record Serves {Tables : Type 0} (state : Tables → State) (old new : Standi
       (events_of steps)
   pub institutions : new.institutions ≡ old.institutions
   pub was_honest : (state new.tables).honest → (state old.tables).honest
+  -- a crash that could leave only the rows can still leave nothing else
+  pub settles : (state new.tables).honest → IsSettled (state old.tables)
+      → IsSettled (state new.tables)

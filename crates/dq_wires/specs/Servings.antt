@@ -5,7 +5,7 @@ use Rattle.dq_tables.specs.declared.row.Row.{Row}
 use Rattle.dq_tables.specs.Keeping.{State}
 use Rattle.dq_core.specs.declared.event.Event.{Event}
 use Rattle.dq_core.specs.declared.event.Reply.{Reply}
-use Rattle.dq_core.specs.Own.{is_on_connection, replies_at}
+use Rattle.dq_core.specs.Own.{Output, Octet, Close, is_on_connection, replies_at}
 use Rattle.dq_core.specs.Standing.{Standing, StandsFor}
 use Rattle.dq_core.specs.Looking.{Looked}
 use Rattle.dq_wires.specs.declared.calls.Call.{Call}
@@ -109,6 +109,12 @@ abbrev pub answered_on : ℕ → List Act → Cut → List ℕ
 answered_on number acts cut =
     let steps = served_steps acts cut in
     flat_map reply_octets (replies_at (is_on_connection number) (events_of steps) (replies_of steps))
+
+-- the octets among what a server does on a connection
+abbrev pub octets_among : List Output → List ℕ
+octets_among [] = []
+octets_among (Octet octet ∷ outputs) = octet ∷ octets_among outputs
+octets_among (Close ∷ outputs) = octets_among outputs
 
 -- the first of the others
 abbrev pub IsFrontOf : List ℕ → List ℕ → Type 0

@@ -1,13 +1,19 @@
 //! Laws of turns and of servings. Each function's contract is a law; its body does nothing.
-ghost use Rattle.std.specs.Prelude.{◌≡◌, ◌≤◌, ℕ, IsTrue, List, [], ◌∷◌, ◌++◌, Option, length, map};
-ghost use Rattle.std.specs.List.{flat_map};
+ghost use Rattle.std.specs.Prelude.{◌≡◌, ◌≤◌, ℕ, IsTrue, List, [], ◌∷◌, ◌++◌, Option, Some, length, map};
+ghost use Rattle.std.specs.List.{AllByRecursion, flat_map};
 ghost use Rattle.dq_config.specs.declared.config.Institution.{Institution};
 ghost use Rattle.dq_tables.specs.declared.row.Row.{Row};
+ghost use Rattle.dq_tables.specs.Keeping.{IsSettled};
 ghost use Rattle.dq_core.specs.declared.event.Event.{Event};
 ghost use Rattle.dq_core.specs.declared.event.Reply.{Reply};
 ghost use Rattle.dq_core.specs.Histories.{is_well_formed_history};
-ghost use Rattle.dq_core.specs.Shared.{replies, world_after};
-ghost use Rattle.dq_core.specs.Own.{owns};
+ghost use Rattle.dq_core.specs.declared.fault.Fault.{Fault};
+ghost use Rattle.dq_core.specs.Shared.{replies, turn, world_after};
+ghost use Rattle.dq_core.specs.Stepping.{IsPartOf};
+ghost use Rattle.dq_core.specs.Own.{owns, stream_of};
+ghost use Rattle.dq_core.specs.Owners.{owner};
+ghost use Rattle.dq_core.specs.Conversations.{arrivals, conversation_on, IsExactAt};
+ghost use Rattle.dq_core.specs.Soundness.{HoldSound, BringOctets};
 ghost use Rattle.dq_core.specs.Isolation.{Begins};
 ghost use Rattle.dq_core.specs.Standing.{Standing, StandsFor};
 ghost use Rattle.dq_core.specs.Looking.{Looked};
@@ -23,14 +29,14 @@ ghost use Rattle.dq_wires.specs.Turns.{Done, wires_kept, Hold, Turn, IsTurn, Are
 ghost use Rattle.dq_wires.specs.Turns.Cut.{NoRoom};
 ghost use Rattle.dq_wires.specs.Turners.{IsOrder};
 ghost use Rattle.dq_wires.specs.Octets.{answered_in, written_in, lost_in, unsent_of, held_on, done_on, turns_done, IsNumbered};
-ghost use Rattle.dq_wires.specs.Servings.{Act, nothing_held, all_turned, Serving, Served, served_steps, served_events, written_on, answered_on, IsFrontOf, OneBegins};
+ghost use Rattle.dq_wires.specs.Servings.{Act, nothing_held, all_turned, Serving, Served, served_steps, served_events, written_on, answered_on, octets_among, IsFrontOf, OneBegins};
 ghost use Rattle.dq_wires.specs.Servings.Act.{Ordered};
 ghost use Rattle.dq_wires.specs.Cuts.{AgreeOnWires};
 
 use dq_assoc::laws::a_longer_stream_adds_inputs;
 use dq_core::laws::{
-    institutions_are_answered_by_records, pieces_join, replies_do_not_depend_on_numbers,
-    verdict_is_of_the_request,
+    associations_are_answered_in_full, institutions_are_answered_by_records, pieces_join,
+    replies_do_not_depend_on_numbers, verdict_is_of_the_request,
 };
 use dq_tables::Tables;
 
@@ -127,6 +133,45 @@ pub fn servings_are_answered<T: Tables>()
     ensures written { (rows : List Row) (first last : Standing T) (acts : List Act) (cut : Cut) →
         Served T.state rows first last acts cut → (T.state last.tables).honest → (number : ℕ) →
         IsFrontOf (written_on number acts cut) (answered_on number acts cut) }
+{}
+
+/// Exact searches over wires. What is written on a connection that an institution owns is the first
+/// of its conversation: the answer to its request, and then the responses to each message. If the
+/// rows were sound as the serving began and octets came, each C-FIND in it is answered with exactly
+/// the records that match (PS3.4 sections C.4.1 and K.4.1).
+pub fn servings_are_exact<T: Tables>()
+    ensures written { (rows : List Row) (first last : Standing T) (acts : List Act) (cut : Cut) →
+        Served T.state rows first last acts cut → (T.state last.tables).honest →
+        (number : ℕ) (i : Institution) → let events = served_events acts cut in
+        owner first.institutions (stream_of number events) ≡ Some i →
+        IsFrontOf (written_on number acts cut)
+        (octets_among (conversation_on first.institutions rows number i events)) }
+    ensures exact { (rows : List Row) (first last : Standing T) (acts : List Act) (cut : Cut) →
+        Served T.state rows first last acts cut → (T.state last.tables).honest →
+        (number : ℕ) (i : Institution) → let events = served_events acts cut in
+        HoldSound rows → BringOctets events →
+        owner first.institutions (stream_of number events) ≡ Some i →
+        AllByRecursion (IsExactAt i) (arrivals first.institutions rows number [] events) }
+{
+    associations_are_answered_in_full();
+}
+
+/// Restart over wires. If a crash could leave only the rows as a serving began, then afterwards it
+/// leaves the rows of the plain server after what was answered, and nothing else. If the server then
+/// fails at an event, a crash leaves the rows after some first operations of the event, with or
+/// without the next one.
+pub fn servings_settle<T: Tables>()
+    ensures answered { (rows : List Row) (first last : Standing T) (acts : List Act) (cut : Cut) →
+        Served T.state rows first last acts cut → (T.state last.tables).honest →
+        IsSettled (T.state first.tables) → (r : List Row) → (T.state last.tables).may_leave r →
+        r ≡ (world_after first.institutions rows (served_events acts cut)).rows }
+    ensures failed { (rows : List Row) (first last new : Standing T) (acts : List Act) (cut : Cut)
+        (event : Event) (fault : Fault) →
+        Served T.state rows first last acts cut → Fails T.state last new event fault →
+        (T.state new.tables).honest → IsSettled (T.state first.tables) →
+        let world = world_after first.institutions rows (served_events acts cut) in
+        IsPartOf (turn first.institutions world event).operations world.rows
+        (T.state new.tables).rows (T.state new.tables).may_leave }
 {}
 
 /// Isolation on the wires. Of two servings, over any wires and any two keepers, in which what came

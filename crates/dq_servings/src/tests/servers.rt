@@ -2,7 +2,7 @@
 use dq_config::Config;
 use dq_core::{Event, Fault, Outcome, Reply, Server, run, well_formed};
 use dq_list::Listed;
-use dq_tables::{Fused, PlainTables};
+use dq_tables::{Fused, PlainTables, Tables};
 use std::alloc::{AllocError, Global};
 use std::test::*;
 
@@ -31,6 +31,29 @@ const STORE: &[u8] = b"\x04\0\0\0\0\x60\0\0\0\x5c\x01\x03\
 \x20\0\x0e\0UI\x06\x001.2.5\0";
 
 const RELEASE: &[u8] = b"\x05\0\0\0\0\x04\0\0\0\0";
+
+/// Two hospitals. The calling title of NORTH's modality is that of the request.
+const HOSPITALS: &str = "[[institution]]
+name = \"NORTH\"
+routes = [{ called = \"ARCHIVE\", calling = \"MODALITY\" }]
+studies = 100
+images = 1000
+entries = 100
+steps = 100
+associations = 4
+
+[[institution]]
+name = \"SOUTH\"
+routes = [{ called = \"ARCHIVE\", calling = \"NODALITY\" }]
+studies = 100
+images = 1000
+entries = 100
+steps = 100
+associations = 4
+";
+
+/// Where a request has the first letter of its calling title.
+const CALLING: usize = 26;
 
 /// The answers: an acceptance, a C-STORE response and a release response.
 const ACCEPTANCE: &[u8] = b"\x02\0\0\0\0\xa9\0\x01\0\0\
@@ -149,6 +172,66 @@ fn a_store_that_fails_stops_a_run(rt: HostRuntime) -> Result<(), Fail> {
     let failed = outcome(rt.alloc(), 0)?;
     assert!(rt; failed.fault == Some(Fault::Store));
     assert_eq!(rt; failed.replies.len(), 2);
+    Ok(())
+}
+
+/// NORTH's association, and SOUTH's if it is asked for. Each stores its instance.
+fn hospitals_store(alloc: Global, with_south: bool) -> Result<Vec<Event>, AllocError> {
+    let mut events = storing(alloc)?;
+    if with_south {
+        let mut request = Vec::from_slice(alloc, REQUEST)?;
+        if let Some(letter) = request.get_mut(CALLING) {
+            *letter = b'N';
+        }
+        events.push(Event::Open(2))?;
+        events.push(Event::Piece(2, Listed::from_inner(request)))?;
+        events.push(Event::Piece(2, Listed::copy_of(alloc, STORE)?))?;
+    }
+    Ok(events)
+}
+
+/// What the hospitals come to over tables that make one change.
+fn one_change(alloc: Global, with_south: bool) -> Result<Outcome<Fused<PlainTables>>, Fail> {
+    let events = hospitals_store(alloc, with_south)?;
+    if !well_formed(&events) {
+        return Err("not well formed".into());
+    }
+    let tables = Fused::new(PlainTables::new(alloc), 1);
+    Ok(run(alloc, Config::read(alloc, HOSPITALS)?, tables, events)?)
+}
+
+/// NORTH's instance is stored, and the tables fail when SOUTH's is. NORTH is answered as it is
+/// without SOUTH.
+#[test]
+fn tables_that_fail_for_one_hospital_stop_the_run(rt: HostRuntime) -> Result<(), Fail> {
+    let alone = one_change(rt.alloc(), false)?;
+    assert!(rt; alone.fault.is_none());
+    let both = one_change(rt.alloc(), true)?;
+    assert!(rt; both.fault == Some(Fault::Store));
+    let north = |reply: &Reply| answers(reply, STORED, false);
+    assert!(rt; matches!(alone.replies.as_slice(), [Reply::Done, _, reply] if north(reply)));
+    assert!(rt;
+        matches!(both.replies.as_slice(), [Reply::Done, _, reply, Reply::Done, _] if north(reply))
+    );
+    Ok(())
+}
+
+/// A server whose tables failed takes no further event.
+#[test]
+fn a_server_whose_tables_failed_is_stopped(rt: HostRuntime) -> Result<(), Fail> {
+    let alloc = rt.alloc();
+    let tables = Fused::new(PlainTables::new(alloc), 0);
+    let mut server = Server::new(alloc, Config::built_in(alloc)?, tables)?;
+    assert!(rt; server.can_open(1));
+    assert!(rt; matches!(server.step(Event::Open(1))?, Reply::Done));
+    let request = Listed::copy_of(alloc, REQUEST)?;
+    assert!(rt; answers(&server.step(Event::Piece(1, request))?, ACCEPTANCE, false));
+    assert!(rt; !server.tables().failed());
+    for fault in [Fault::Store, Fault::Stopped] {
+        let store = Listed::copy_of(alloc, STORE)?;
+        assert!(rt; server.step(Event::Piece(1, store)).err() == Some(fault));
+        assert!(rt; server.tables().failed());
+    }
     Ok(())
 }
 

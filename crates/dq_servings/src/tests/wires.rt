@@ -1,5 +1,5 @@
 use dq_config::Config;
-use dq_core::Server;
+use dq_core::{Event, Reply, Server};
 use dq_list::Listed;
 use dq_tables::PlainTables;
 use dq_wires::{
@@ -13,6 +13,43 @@ use std::test::Fail;
 const UNKNOWN: [u8; 6] = [8, 0, 0, 0, 0, 0];
 
 const ABORTED: [u8; 10] = [7, 0, 0, 0, 0, 4, 0, 0, 0, 0];
+
+/// An association for Verification in Implicit, a C-ECHO and a release (PS3.7 section 9.1.5).
+const ECHO: &[u8] = b"\x01\0\0\0\0\xa4\0\x01\0\0\
+ARCHIVE         MODALITY        \
+\0\0\0\0\0\0\0\0\0\0\0\0\0\0\0\0\0\0\0\0\0\0\0\0\0\0\0\0\0\0\0\0\
+\x10\0\0\x151.2.840.10008.3.1.1.1\
+\x20\0\0\x2e\x01\0\0\0\
+\x30\0\0\x111.2.840.10008.1.1\
+\x40\0\0\x111.2.840.10008.1.2\
+\x50\0\0\x11\x51\0\0\x04\0\0\x40\0\
+\x52\0\0\x051.2.3\
+\x04\0\0\0\0\x4a\0\0\0\x46\x01\x03\
+\0\0\0\0\x04\0\0\0\x38\0\0\0\
+\0\0\x02\0\x12\0\0\x001.2.840.10008.1.1\0\
+\0\0\0\x01\x02\0\0\0\x30\0\
+\0\0\x10\x01\x02\0\0\0\x01\0\
+\0\0\0\x08\x02\0\0\0\x01\x01\
+\x05\0\0\0\0\x04\0\0\0\0";
+
+/// The acceptance, the response and the release response.
+const ECHO_ANSWERS: &[u8] = b"\x02\0\0\0\0\xa7\0\x01\0\0\
+ARCHIVE         MODALITY        \
+\0\0\0\0\0\0\0\0\0\0\0\0\0\0\0\0\0\0\0\0\0\0\0\0\0\0\0\0\0\0\0\0\
+\x10\0\0\x151.2.840.10008.3.1.1.1\
+\x21\0\0\x19\x01\0\0\0\
+\x40\0\0\x111.2.840.10008.1.2\
+\x50\0\0\x29\x51\0\0\x04\0\x01\0\0\
+\x52\0\0\x0f2.25.2718281828\
+\x55\0\0\x0aDQARCHIVE1\
+\x04\0\0\0\0\x54\0\0\0\x50\x01\x03\
+\0\0\0\0\x04\0\0\0\x42\0\0\0\
+\0\0\x02\0\x12\0\0\x001.2.840.10008.1.1\0\
+\0\0\0\x01\x02\0\0\0\x30\x80\
+\0\0\x20\x01\x02\0\0\0\x01\0\
+\0\0\0\x08\x02\0\0\0\x01\x01\
+\0\0\0\x09\x02\0\0\0\0\0\
+\x06\0\0\0\0\x04\0\0\0\0";
 
 pub(super) fn turner(alloc: Global) -> Result<Turner<PlainTables>, Fail> {
     let config = Config::built_in(alloc)?;
@@ -113,6 +150,46 @@ fn octets_go_in_and_out_by_pieces(rt: HostRuntime) -> Result<(), Fail> {
         held: [false, false],
     };
     assert!(rt; comes_to(alloc, script, 13, outcome)?);
+    Ok(())
+}
+
+/// An association comes in reads of 1 octet, of 5 and of what is left. Each write takes one octet.
+#[test]
+fn an_association_is_cut_anywhere(rt: HostRuntime) -> Result<(), Fail> {
+    let alloc = rt.alloc();
+    let (first, rest) = ECHO.split_at(1);
+    let (second, third) = rest.split_at(5);
+    let mut script = Script::empty(alloc);
+    script.accepts.push_back(Ok(Some(1)))?;
+    for piece in [first, second, third] {
+        script.reads.push((1, octets(alloc, piece)?))?;
+    }
+    for _ in 0..ECHO_ANSWERS.len() {
+        script.writes.push_back(Ok(1))?;
+    }
+    let outcome = Outcome {
+        answer: Ok(()),
+        calls: 300 + 3 + ECHO_ANSWERS.len() + 1,
+        accepts: 300,
+        place: 1,
+        written: ECHO_ANSWERS,
+        shuts: 1,
+        held: [false, false],
+    };
+    assert!(rt; comes_to(alloc, script, 300, outcome)?);
+    Ok(())
+}
+
+/// The console withdraws an entry that is not scheduled.
+#[test]
+fn an_unknown_entry_is_not_withdrawn(rt: HostRuntime) -> Result<(), Fail> {
+    let alloc = rt.alloc();
+    let order = Event::Withdraw {
+        inst: Listed::copy_of(alloc, b"DEMO")?,
+        id: Listed::copy_of(alloc, b"S1")?,
+    };
+    let reply = turner(alloc)?.console(order)?;
+    assert!(rt; matches!(reply, Reply::Refused(5)));
     Ok(())
 }
 

@@ -1,0 +1,1 @@
+"""What the suites share, and the suites that take several files: stores, sockets, web and hostile."""

@@ -1,0 +1,1 @@
+"""Models of the standard, written apart from the server's code."""

@@ -1,0 +1,40 @@
+# Rows of suite/notices, which sources this: the web front.
+
+# the web front
+front=$top/suite/web
+passes 'the web front' "$front" "$right" page keys hospitals searches entries looks methods hosts grammar slow many metrics backup
+for one in page keys hospitals searches entries looks methods hosts grammar slow many metrics backup log curl; do
+    notices "the web front: stops_at_once: $one" "$one" "$front" "$stops_at_once" "$one"
+done
+notices 'a page of other octets' '/page.js' "$front" "$(server 'web-page-with:PAGE:LEAF')" page
+notices 'a head without its policy' '/page.css' "$front" "$(server web-without:Content-Security-Policy)" page
+notices 'a key that opens all' "another institution's" "$front" "$(server web-key-of-anybody)" keys
+notices 'rows of another institution' 'the studies of SOUTH' "$front" "$(server web-rows-of-the-first)" hospitals
+notices 'two hospitals that share rows, over HTTP' 'both are filled alike' "$front" "$(server shares-rows)" hospitals
+notices 'pages of another length' 'a hundred studies' "$front" "$(server web-pages-of:99)" searches
+notices 'a key of searches that is not met' 'a search' "$front" "$(server key-not-met:0010,0020)" searches
+notices 'a refusal that is told as done' 'an entry that is the same again' "$front" "$(server web-refuses-as:201)" entries
+notices 'an entry that is not kept' 'entries' "$front" "$(server socket-forgets)" entries
+notices 'a look that withdraws' 'what is kept is as before' "$front" "$(server web-look-withdraws)" looks
+notices 'a method of any name' 'a method' "$front" "$(server web-takes-any-method)" methods
+notices 'a body after HEAD' 'HEAD has no body' "$front" "$(server web-sends-a-body-to-head)" methods
+notices 'a host of any name' 'Host evil.example' "$front" "$(server web-takes-any-host)" hosts
+notices 'two hosts' 'a head with two Hosts' "$front" "$(server web-takes-two-hosts)" grammar
+notices 'a front that waits for one' 'slow' "$front" "$(server web-waits-for-one)" slow
+notices 'a front that closes one connection of seven' '100 at once' "$front" "$(server web-closes-each:7)" many
+notices 'rejections that are not counted' 'associations rejected' "$front" "$(server web-counts-no:rejected)" metrics
+notices 'a backup of nothing' 'backup' "$front" "$(server web-copies-nothing)" backup
+notices 'a log without the web front' log "$front" "$(unheard --log-file 2)" log
+if command -v chromium > "$work/nothing"; then
+    passes 'the page in a browser' env PATIENCE=20 "$front" "$right" browser
+    notices 'a page that makes markup of text' 'markup in a name stays text' env PATIENCE=20 "$front" \
+        "$(server web-page-with:textContent:innerHTML)" browser
+    notices 'a page without its policy' 'an inline script is refused' env PATIENCE=20 "$front" \
+        "$(server web-without:Content-Security-Policy)" browser
+    notices 'a page that asks nothing before it withdraws' 'a question before' env PATIENCE=20 "$front" \
+        "$(server 'web-page-with:showModal:toString')" browser
+fi
+
+notices 'two hospitals that share rows, over sockets' 'round ' "$sockets" "$(server shares-rows)" histories
+notices 'connections in another order' 'loopback of two_hospitals' "$sockets" "$(server loopback-sorts-by-text)" \
+    loopback=two_hospitals
