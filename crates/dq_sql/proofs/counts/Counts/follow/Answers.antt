@@ -16,7 +16,7 @@ returns-in-EntryAdded c rows rising fits right =
 pub returns-in-EntryRemoved : goal.returns-in-EntryRemoved
 returns-in-EntryRemoved c rows rising fits right =
     let it = c.in-EntryRemoved in
-    rw it.is (gone_right it.field-0 it.field-1 rows c.args.self.now c.take.new.self rising (rw it.is at fits) right
+    rw it.is (gone_right it.inst it.field-1 rows c.args.self.now c.take.new.self rising (rw it.is at fits) right
     (λ row others kind inst. c.take.ensures row others kind (rw c.as_slice.ensures inst)))
 
 pub returns-in-StepAdded : goal.returns-in-StepAdded
