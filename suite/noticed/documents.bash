@@ -29,20 +29,24 @@ notices 'documents: a caller that stands nowhere' 'dq_pdu/CALLING.md: crates/dq_
 # pages that name what is not there, or quote what no law says
 pages=$(documents same ':')
 passes 'claims of the pages' "$pages/documents" claims
-pages=$(documents clause "sed -i '0,/(\`stopped\`, \`unchanged\`, \`fault\`)/s//(\`stopped\`, \`unturned\`, \`fault\`)/' PROVED.md")
-notices 'a clause that is not there' 'PROVED, dq_core: no clause unturned' "$pages/documents" claims
+pages=$(documents clause "sed -i '0,/\`stopped\`, \`unchanged\`, \`fault\`/s//\`stopped\`, \`unturned\`, \`fault\`/' PROVED.md")
+notices 'a clause that is not there' 'PROVED: the sources do not say: | `Server::step`' "$pages/documents" claims
 pages=$(documents function "sed -i 's/laws::owners_stay/laws::owners_go/' PROVED.md")
-notices 'a law that is not there' 'PROVED, dq_core: there is no function laws::owners_go' "$pages/documents" claims
-pages=$(documents definition "sed -i 's/\`stands_whole\`/\`stands_half\`/' DEFINITIONS.md")
-notices 'a definition that is not there' 'DEFINITIONS, dq_store' "$pages/documents" claims
+notices 'a law that is not there' 'PROVED: the sources do not say: | `laws::owners_go`' "$pages/documents" claims
+pages=$(documents definition "sed -i '/^| Levels /s/\`stands_whole\`/\`stands_half\`/' DEFINITIONS.md")
+notices 'a definition that is not there' 'DEFINITIONS: the sources do not say: | Levels' "$pages/documents" claims
+pages=$(documents rule "sed -i 's/\`value_meets\`/\`value_met\`/' DEFINITIONS.md")
+notices 'a rule that is elsewhere' 'DEFINITIONS: Values of dq_match does not define value_met' "$pages/documents" claims
 pages=$(documents promise "sed -i 's/strangers_are/strangers_were/; s/runs_are_isolated/runs_were_isolated/' PROMISES.md")
 notices 'a promise by a law that is not there' 'PROMISES: nothing is called laws::runs_were_isolated' "$pages/documents" claims
+pages=$(documents elsewhere "sed -i 's/(\`ran\`, \`stopped\`)/(\`ran\`, \`stands\`)/' PROMISES.md")
+notices 'a clause of another function' 'PROMISES: dq_core::run has no clause stands' "$pages/documents" claims
 pages=$(documents quote "sed -i 's/IsPrefix some more ⊎ IsPrefix more some/IsPrefix some more/' PROMISES.md")
 notices 'a quote that no law says' 'PROMISES: not word for word in crates/dq_core/src/laws.rt' "$pages/documents" claims
-pages=$(documents twice "sed -i 's/^| \`is_uid\` tells.*/&\n&/' PROVED.md")
-notices 'a claim that stands twice' 'PROVED, dq_value: a claim that stands twice' "$pages/documents" claims
-pages=$(documents to_read "sed -i 's/dq_core: owner of a stream/dq_core: owner of a river/' PROMISES.md")
-notices 'a definition to read that is not there' 'PROMISES: DEFINITIONS has no row of owner of a river' "$pages/documents" claims
+pages=$(documents twice "sed -i 's/^| \`is_uid\`.*/&\n&/' PROVED.md")
+notices 'a row that is there twice' 'PROVED: the sources do not say' "$pages/documents" claims
+pages=$(documents to_read "sed -i 's/dq_core: Owners/dq_core: Rivers/' PROMISES.md")
+notices 'a definition to read that is not there' 'PROMISES: dq_core has no definitions Rivers' "$pages/documents" claims
 
 # pages that list other numbers than the sources have, that link to nothing, or leave the package's reader without one
 pages=$(documents true ':')
