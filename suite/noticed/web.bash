@@ -26,13 +26,19 @@ notices 'rejections that are not counted' 'associations rejected' "$front" "$(se
 notices 'a backup of nothing' 'backup' "$front" "$(server web-copies-nothing)" backup
 notices 'a log without the web front' log "$front" "$(unheard --log-file 2)" log
 if command -v chromium > "$work/nothing"; then
-    passes 'the page in a browser' env PATIENCE=20 "$front" "$right" browser
+    passes 'the page in a browser' env PATIENCE=20 "$front" "$right" lists items browser
     notices 'a page that makes markup of text' 'markup in a name stays text' env PATIENCE=20 "$front" \
-        "$(server web-page-with:textContent:innerHTML)" browser
+        "$(server web-page-with:textContent:innerHTML)" lists
+    notices 'a page in another order' 'the worklist opens on today, in the order of time' env PATIENCE=20 "$front" \
+        "$(server 'web-page-with:order * (:(')" lists
+    notices 'a page that asks nothing before it withdraws' 'a question before an item is withdrawn' env PATIENCE=20 "$front" \
+        "$(server 'web-page-with:showModal:toString')" items
+    notices 'a page that changes more than what was edited' 'and nothing else' env PATIENCE=20 "$front" \
+        "$(server 'web-page-with:structuredClone(draft.base):{}')" items
     notices 'a page without its policy' 'an inline script is refused' env PATIENCE=20 "$front" \
         "$(server web-without:Content-Security-Policy)" browser
-    notices 'a page that asks nothing before it withdraws' 'a question before' env PATIENCE=20 "$front" \
-        "$(server 'web-page-with:showModal:toString')" browser
+    notices 'a page that stays open' 'after ten the rows are gone' env PATIENCE=20 "$front" \
+        "$(server 'web-page-with:IDLE = 10:IDLE = 20')" browser
 fi
 
 notices 'two hospitals that share rows, over sockets' 'round ' "$sockets" "$(server shares-rows)" histories

@@ -16,7 +16,9 @@
     backup      the operator's backup, and its refusals
     log         the line of each request
     curl        the same by curl, where it is installed
-    browser     the page in headless Chromium, where it is installed: keys, rows, forms, markup, narrow and wide, the keyboard alone
+    lists       the page in headless Chromium, where it is installed: its lists, their order, searches and pages
+    items       the same: items that are scheduled, copied, changed and withdrawn
+    browser     the same: what its policy refuses, sessions, narrow and wide, a phone, the keyboard only, the operator
     orthanc     Orthanc's DICOMweb plugin as a client, where it is installed
     nginx       nginx in front with TLS, as docs/OPERATING.md shows it, where it is installed
 
@@ -31,14 +33,14 @@ from .keys import keys
 from .loads import many, slow
 from .operator import backup, curl, log, metrics
 from .others import nginx, orthanc
-from .page import browser, page, picture
+from .page import browser, items, lists, page, picture
 from .requests import grammar, hosts, methods
 from .searches import hospitals, searches
 
 PARTS = {"page": page, "keys": keys, "hospitals": hospitals, "searches": searches, "entries": entries, "looks": looks,
          "methods": methods, "hosts": hosts,
          "grammar": grammar, "slow": slow, "many": many, "metrics": metrics, "backup": backup, "log": log, "curl": curl,
-         "browser": browser,
+         "lists": lists, "items": items, "browser": browser,
          "orthanc": orthanc, "nginx": nginx}
 
 
