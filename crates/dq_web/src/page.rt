@@ -540,7 +540,8 @@ async function remove(record, of) {
   if (JSON.stringify(rows.find(one => textOf(one, STEP_ID) === id)) !== JSON.stringify(record)) {
     throw new Error(`${id} was started, changed or withdrawn meanwhile. Look at the list again.`);
   }
-  await ask(`worklist/${encodeURIComponent(id)}`, { method: \"DELETE\", of });
+  // (a slash stands as it is: the front refuses %2F in a path)
+  await ask(`worklist/${encodeURIComponent(id).replaceAll(\"%2F\", \"/\")}`, { method: \"DELETE\", of });
 }
 
 function post(record, of) {
