@@ -281,7 +281,8 @@ function row(list, record) {
     button.append(...first.textContent ? first.childNodes : ["Open"]);
     first.append(button);
     // (somebody who marks text to copy it opens nothing)
-    whole.onclick = ({ target }) => (button.contains(target) || getSelection().isCollapsed) && descend(below, record);
+    whole.onclick = ({ target }) => (button.contains(target) || getSelection().isCollapsed) &&
+      go(() => views.push({ list: below, above: record, offset: 0 }));
   }
   const buttons = Object.entries(actions).map(([name, act]) =>
     create("button", name, { onclick: () => act(record), ariaLabel: `${name} ${textOf(record, STEP_ID)}` }));
@@ -289,18 +290,9 @@ function row(list, record) {
   return whole;
 }
 
-function descend(list, above) {
-  views.push({ list, above, offset: 0 });
-  load();
-}
-
-function ascend() {
-  views.pop();
-  load();
-}
-
-function turn(by) {
-  views.at(-1).offset += by;
+// Goes to another list or another page.
+function go(move) {
+  move();
   load();
 }
 
@@ -354,7 +346,8 @@ async function remove(record, of) {
   if (JSON.stringify(rows.find(one => textOf(one, STEP_ID) === id)) !== JSON.stringify(record)) {
     throw new Error(`${id} was started, changed or withdrawn meanwhile. Look at the list again.`);
   }
-  await ask(`worklist/${encodeURIComponent(id)}`, { method: "DELETE", of });
+  // (a slash stands as it is: the front refuses %2F in a path)
+  await ask(`worklist/${encodeURIComponent(id).replaceAll("%2F", "/")}`, { method: "DELETE", of });
 }
 
 function post(record, of) {
@@ -622,8 +615,8 @@ for (const [id, action] of Object.entries({ opening: signIn, search, entry: send
 }
 for (const [id, action] of Object.entries({
   out: () => signOut("Signed out."), today: () => searchDay(today()), days: () => searchDay(""), propose, clear: () => begin(),
-  up: ascend, back: () => turn(-PAGE), next: () => turn(PAGE), again: load, measure: () => attempt($("state"), askMetrics, showMetrics),
-  no: () => $("question").close(),
+  up: () => go(() => views.pop()), back: () => go(() => views.at(-1).offset -= PAGE), next: () => go(() => views.at(-1).offset += PAGE),
+  again: load, measure: () => attempt($("state"), askMetrics, showMetrics), no: () => $("question").close(),
 })) $(id).onclick = action;
 for (const kind of ["keydown", "pointerdown", "wheel"]) addEventListener(kind, noteUse, { capture: true, passive: true });
 document.onvisibilitychange = tick;

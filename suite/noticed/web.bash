@@ -34,7 +34,7 @@ if command -v chromium > "$work/nothing"; then
     notices 'a page that makes markup of text' 'markup in a name stays text' env PATIENCE=20 "$front" \
         "$(server web-page-with:textContent:innerHTML)" lists
     notices 'a page in another order' 'the worklist opens on today, in the order of time' env PATIENCE=20 "$front" \
-        "$(server 'web-page-with:order * (:(')" lists
+        "$(server 'web-page-with:(a > b) - (a < b):0')" lists
     notices 'a page that asks nothing before it withdraws' 'a question before an item is withdrawn' env PATIENCE=20 "$front" \
         "$(server 'web-page-with:showModal:toString')" items
     notices 'a page that changes more than what was edited' 'and nothing else' env PATIENCE=20 "$front" \

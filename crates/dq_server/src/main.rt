@@ -1,10 +1,7 @@
 //! A DICOM server, over captures and over sockets: events in, the octets of its answers out.
 #![tactic(auto)]
 
-mod file_rows;
-pub mod laws;
 mod machine;
-mod memory;
 
 use dq_program::{Sink, Source, play_on, unworded};
 use machine::Machine;
@@ -14,7 +11,7 @@ use std::process::ExitCode;
 
 /// Plays the program on the machine. It is a function of its own so that the check of `play` does not
 /// carry the machine's keepers of rows.
-fn performed_on<R: Source, W: Sink, E: Sink>(
+fn play_here<R: Source, W: Sink, E: Sink>(
     rt: &HostRuntime,
     words: &[String],
     input: R,
@@ -27,7 +24,7 @@ fn performed_on<R: Source, W: Sink, E: Sink>(
 fn play<E: Write>(rt: &HostRuntime, errors: &mut E) -> io::Result<u8> {
     let words: Vec<String> = env::args(rt)?.skip(1).collect(rt.alloc())?;
     let mut output = BufWriter::new(rt.alloc(), io::writer(rt))?;
-    Ok(performed_on(rt, words.as_slice(), rt.reader(), &mut output, errors))
+    Ok(play_here(rt, words.as_slice(), rt.reader(), &mut output, errors))
 }
 
 fn main(rt: HostRuntime) -> ExitCode {

@@ -124,8 +124,7 @@ h1, h2 { font-size: 1.1rem; margin: 0 0 .4rem; }
 header h1, header p { margin: 0; }
 button, input, select, summary { font: inherit; max-width: 100%; min-width: 24px; min-height: 28px; }
 summary { padding: .2rem 0; cursor: pointer; }
-[data-vr=CS], [name=modality] { text-transform: uppercase; }
-select { text-transform: none; }
+input[data-vr=CS], [name=modality] { text-transform: uppercase; }
 :focus-visible { outline: 2px solid var(--link); outline-offset: 1px; }
 .two { display: grid; grid-template-columns: minmax(0, 1fr) 18rem; gap: 1.2rem; }
 
@@ -144,7 +143,9 @@ meter { display: block; width: 100%; }
 table { border-collapse: collapse; width: 100%; }
 caption { text-align: left; padding: .6rem 0 .3rem; font-weight: 600; }
 th, td { text-align: left; vertical-align: baseline; padding: .3rem .4rem; border-bottom: 1px solid var(--line); }
-td[data-label=Actions], td span:not(:only-child) { white-space: nowrap; }
+td span:not(:only-child) { white-space: nowrap; }
+td[data-label=Accession], td[data-label=Station] { overflow-wrap: anywhere; }
+td[data-label=Actions] { min-width: 9rem; }
 td button { margin: 1px .15rem 1px 0; padding: 1px .3rem; }
 tbody tr:hover { background: var(--soft); }
 .deeper { border: 0; padding: 0; background: none; color: var(--link); text-align: left; }
@@ -166,18 +167,21 @@ dialog { max-width: min(40rem, 90vw); }
   #new { display: block; }
   #institution:not(.entering) #form, .entering #panel { display: none; }
 }
-/* In a narrow window the cells of a row are lines. Roles keep them cells for a screen reader, which reads the heads too. */
+/* In a window that has no room for a table its rows are cards. Roles keep it a table for a screen reader, with its heads. */
+@media (max-width: 56rem) {
+  thead { position: absolute; width: 1px; height: 1px; overflow: hidden; clip-path: inset(50%); }
+  thead tr, thead th { display: inline; }
+  table, caption, tbody { display: block; }
+  tbody tr { display: grid; grid-template-columns: repeat(auto-fill, minmax(8rem, 1fr)); gap: 0 .5rem; }
+  tbody tr { border-bottom: 1px solid var(--line); padding: .4rem 0; }
+  td { display: flex; gap: .4rem; align-items: baseline; border: 0; padding: .1rem 0; overflow-wrap: anywhere; }
+  td:first-child, td[data-label=Patient], td[data-label=Description], td[data-label=Actions] { grid-column: span 2; }
+  td:not([data-label=Actions])::before { content: attr(data-label); content: attr(data-label) / \"\"; color: var(--faint); flex: none; }
+}
 @media (max-width: 40rem) {
   body { font-size: 16px; }
   #session { margin: 0; order: 0; }
   [role=tab] { padding: .4rem .6rem; }
-  thead { position: absolute; width: 1px; height: 1px; overflow: hidden; clip-path: inset(50%); }
-  table, caption, tbody, tr { display: block; }
-  tbody tr { display: grid; grid-template-columns: 1fr 1fr; gap: 0 .5rem; border-bottom: 1px solid var(--line); padding: .4rem 0; }
-  td { display: flex; gap: .4rem; align-items: baseline; border: 0; padding: .1rem 0; overflow-wrap: anywhere; }
-  td:first-child, td[data-label=Patient], td[data-label=Actions] { grid-column: 1 / -1; }
-  td:not([data-label=Actions])::before { content: attr(data-label); content: attr(data-label) / \"\"; color: var(--faint); flex: none; }
-  thead tr, thead th { display: inline; }
 }
 @media (prefers-reduced-motion: no-preference) { tbody tr { transition: background-color .15s; } }
 ";
@@ -467,7 +471,8 @@ function row(list, record) {
     button.append(...first.textContent ? first.childNodes : [\"Open\"]);
     first.append(button);
     // (somebody who marks text to copy it opens nothing)
-    whole.onclick = ({ target }) => (button.contains(target) || getSelection().isCollapsed) && descend(below, record);
+    whole.onclick = ({ target }) => (button.contains(target) || getSelection().isCollapsed) &&
+      go(() => views.push({ list: below, above: record, offset: 0 }));
   }
   const buttons = Object.entries(actions).map(([name, act]) =>
     create(\"button\", name, { onclick: () => act(record), ariaLabel: `${name} ${textOf(record, STEP_ID)}` }));
@@ -475,18 +480,9 @@ function row(list, record) {
   return whole;
 }
 
-function descend(list, above) {
-  views.push({ list, above, offset: 0 });
-  load();
-}
-
-function ascend() {
-  views.pop();
-  load();
-}
-
-function turn(by) {
-  views.at(-1).offset += by;
+// Goes to another list or another page.
+function go(move) {
+  move();
   load();
 }
 
@@ -540,7 +536,8 @@ async function remove(record, of) {
   if (JSON.stringify(rows.find(one => textOf(one, STEP_ID) === id)) !== JSON.stringify(record)) {
     throw new Error(`${id} was started, changed or withdrawn meanwhile. Look at the list again.`);
   }
-  await ask(`worklist/${encodeURIComponent(id)}`, { method: \"DELETE\", of });
+  // (a slash stands as it is: the front refuses %2F in a path)
+  await ask(`worklist/${encodeURIComponent(id).replaceAll(\"%2F\", \"/\")}`, { method: \"DELETE\", of });
 }
 
 function post(record, of) {
@@ -808,8 +805,8 @@ for (const [id, action] of Object.entries({ opening: signIn, search, entry: send
 }
 for (const [id, action] of Object.entries({
   out: () => signOut(\"Signed out.\"), today: () => searchDay(today()), days: () => searchDay(\"\"), propose, clear: () => begin(),
-  up: ascend, back: () => turn(-PAGE), next: () => turn(PAGE), again: load, measure: () => attempt($(\"state\"), askMetrics, showMetrics),
-  no: () => $(\"question\").close(),
+  up: () => go(() => views.pop()), back: () => go(() => views.at(-1).offset -= PAGE), next: () => go(() => views.at(-1).offset += PAGE),
+  again: load, measure: () => attempt($(\"state\"), askMetrics, showMetrics), no: () => $(\"question\").close(),
 })) $(id).onclick = action;
 for (const kind of [\"keydown\", \"pointerdown\", \"wheel\"]) addEventListener(kind, noteUse, { capture: true, passive: true });
 document.onvisibilitychange = tick;

@@ -18,8 +18,8 @@ from .page_help import (
     ANSWER, CAPTION, CELLS, MARKUP, ROWS, STATE, TODAY, click, fill_form, item_at, kept_item,
     open_page, open_worklist, sign_in)
 from .page_items import (
-    changes, changes_that_fail, clicks_while_sending, copies, new_items, refused_forms,
-    unreadable_items, withdrawals)
+    changes, changes_that_are_lost, changes_that_fail, clicks_while_sending, copies, new_items,
+    refused_forms, unreadable_items, withdrawals)
 from .page_lists import (
     long_lists, order_of_worklist, phone, rows_of_worklist, searches_of_worklist, sizes, steps_list,
     studies_list, targets)
@@ -103,7 +103,7 @@ def lists(tally: Tally, folder: pathlib.Path) -> None:
 def items(tally: Tally, folder: pathlib.Path) -> None:
     with shown(folder) as (pair, page_of):
         play_each(tally, pair, page_of, refused_forms, new_items, withdrawals, copies, changes,
-                  changes_that_fail, unreadable_items, clicks_while_sending)
+                  changes_that_fail, changes_that_are_lost, unreadable_items, clicks_while_sending)
 
 
 def browser(tally: Tally, folder: pathlib.Path) -> None:

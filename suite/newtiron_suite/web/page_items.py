@@ -175,15 +175,43 @@ def changes(tally: Tally, pair: Pair, page_of: Browser) -> None:
     pair.play("withdraw NORTH C7")
 
 
+def lose_posts(page_of: Browser, count: int) -> None:
+    """Lets the page's next requests by POST be lost."""
+    page_of.run("window.realFetch ??= fetch; window.posts = 0; window.fetch = (path, more) => "
+                f"more.method === 'POST' && posts++ < {count} ? Promise.reject(new Error('lost')) : "
+                "realFetch(path, more)")
+
+
+def changes_that_are_lost(tally: Tally, pair: Pair, page_of: Browser) -> None:
+    """A change whose connection is lost after the item was withdrawn can be sent again."""
+    pair.play(f"schedule NORTH {RICH}")
+    wanted = kept_item(pair, "C7")
+    step_of(wanted)[TIME]["Value"] = ["1200"]
+    open_worklist(page_of, pair, 4)
+    click(page_of, "[aria-label='Change C7']")
+    lose_posts(page_of, 2)
+    fill_form(page_of, **{TIME: "12:00"})
+    send_form(page_of)
+    click(page_of, "#yes")
+    tally.check("a change that is lost", page_of.until(
+        f"{ANSWER} === 'The server does not answer. C7 is withdrawn: schedule it again.'"),
+        page_of.run(ANSWER))
+    tally.check("has withdrawn the item", kept_item(pair, "C7") is None)
+    send_form(page_of)
+    tally.check("and can be sent again", page_of.until(f"{ANSWER}.startsWith('C7 is scheduled')"),
+                page_of.run(ANSWER))
+    tally.check("with all that the item had", kept_item(pair, "C7") == wanted,
+                kept_item(pair, "C7"), wanted)
+    pair.play("withdraw NORTH C7")
+
+
 def changes_that_fail(tally: Tally, pair: Pair, page_of: Browser) -> None:
     """A change that is refused leaves the item, and so does one of an item that is another."""
     pair.play(f"schedule NORTH {RICH}")
     before = kept_item(pair, "C7")
     open_worklist(page_of, pair, 4)
     click(page_of, "[aria-label='Change C7']")
-    page_of.run("window.realFetch = fetch; window.posts = 0; window.fetch = (path, more) => "
-                "more.method === 'POST' && posts++ === 0 ? Promise.reject(new Error('lost')) : "
-                "realFetch(path, more)")
+    lose_posts(page_of, 1)
     fill_form(page_of, **{TIME: "12:00"})
     send_form(page_of)
     click(page_of, "#yes")

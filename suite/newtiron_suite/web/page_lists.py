@@ -190,11 +190,16 @@ def sizes(tally: Tally, pair: Pair, page_of: Browser) -> None:
     dark, still = ("prefers-color-scheme", "dark"), ("prefers-reduced-motion", "reduce")
     seen: list[tuple[int, list[tuple[str, str]]]] = [
         (320, []), (320, [dark]), (1280, [dark]), (1280, [still]), (800, [])]
+    item = item_at("S240705-4F7K2", "VAN DER BERG-HOFFMANN^MARIA ELISABETH",
+                   station="LONG_STATION_01", AccessionNumber="ACC1234567890")
+    pair.play(f"schedule NORTH {item}")
+    over = ("['documentElement', '#panel'].map(name => document[name] ?? "
+            "document.querySelector(name)).map(one => one.scrollWidth - one.clientWidth)")
     for width, features in seen:
         page_of.resize(width, 900, features)
-        open_worklist(page_of, pair)
-        wide = page_of.run("document.documentElement.scrollWidth")
-        tally.check(f"{width} pixels, {features}: nothing stands out", wide <= width, wide)
+        open_worklist(page_of, pair, 4)
+        tally.check(f"{width} pixels, {features}: nothing stands out",
+                    page_of.run(over) == [0, 0], page_of.run(over))
         color = page_of.run("getComputedStyle(document.body).color")
         if dark in features:
             tally.check(f"{width} pixels: dark", color == "rgb(255, 255, 255)", color)
@@ -207,6 +212,7 @@ def sizes(tally: Tally, pair: Pair, page_of: Browser) -> None:
         tally.check(f"{width} pixels: a picture", octets.startswith(b"\x89PNG") and
                     len(octets) > 5000, len(octets))
     page_of.resize(1280, 900)
+    pair.play("withdraw NORTH S240705-4F7K2")
 
 
 def targets(tally: Tally, pair: Pair, page_of: Browser) -> None:

@@ -1,0 +1,4 @@
+mod Closed
+mod Found
+pub mod Honest
+mod InMemory
