@@ -36,7 +36,7 @@ IsOwnResponse (asked.Question question) framing octets = ⊥
 -- opens the name of the question.
 abbrev pub IsGiven : Guard → Request → Framing → Given → Type 0
 IsGiven guard request framing (given.Response octets) =
-    (it : Asked) × IsAsked guard request it × IsOwnResponse it framing octets
+    (it : Asked) × IsAsked guard request it × IsOwnResponse it framing octets.items
 IsGiven guard request framing (given.Question question) = (it : Question)
     × IsQuestion guard request it
     × (question ≡ record it { line = it.line ++ codes "\n"; framing = framing })
@@ -63,5 +63,5 @@ IsDeed guard came deed.Wait =
     IsCutOff came cut.Unfinished ⊎ ((head : Head) × IsAwaited guard came head)
 IsDeed guard came deed.GoOn = (head : Head) × IsAwaited guard came head × IsTrue (is_expecting head)
 IsDeed guard came (deed.Refuse response) = (refusal : Refusal) × (framing : Framing)
-    × (framing.is_last ≡ true) × IsRefusal refusal framing response
+    × (framing.is_last ≡ true) × IsRefusal refusal framing response.items
 IsDeed guard came (deed.Answer answer) = IsAnswer guard came answer

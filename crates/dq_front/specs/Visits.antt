@@ -1,5 +1,6 @@
 -- What a connection of the web front reads and writes.
-use Rattle.std.specs.Prelude.{◌≡◌, ◌⊎◌, ℕ, ◌<◌, ◌≤◌, List, length, drop, Option, Some, None, Result, Bor}
+use Rattle.std.specs.Prelude.{◌≡◌, ◌⊎◌, ℕ, ◌<◌, ◌≤◌, List, length, drop, Option, Some, None, Result}
+use Rattle.std.specs.Borrow.{Bor}
 use Rattle.dq_web.specs.declared.asking.Question.{Question}
 use Rattle.dq_wires.specs.Logs.{Logs}
 use Rattle.dq_wires.specs.declared.calls.Call.{Call}
