@@ -26,7 +26,8 @@ def entries(tally, folder):
         tally.check("no body", pair.ask("POST", "/NORTH/worklist", "NORTH").status == 400)
         strange = entry_octets("0x" + b"S/2 %?#".hex())
         pair.compare(tally, "an ID with marks", "POST", "/NORTH/worklist", "NORTH", body=strange)
-        pair.compare(tally, "an ID with marks is withdrawn", "DELETE", "/NORTH/worklist/S%2F2%20%25%3F%23", "NORTH")
+        pair.compare(tally, "an encoded slash", "DELETE", "/NORTH/worklist/S%2F2%20%25%3F%23", "NORTH")
+        pair.compare(tally, "an ID with marks is withdrawn", "DELETE", "/NORTH/worklist/S/2%20%25%3F%23", "NORTH")
         tally.check("a modality does not find it", pair.found_entries(1) == 1)
         for target in ("worklist/S9", "worklist/", "worklist/S1%00", "worklist/%", "worklist/s1", "worklist/S1/x"):
             pair.compare(tally, "no such entry", "DELETE", f"/NORTH/{target}", "NORTH")

@@ -165,7 +165,9 @@ def changes(tally: Tally, pair: Pair, page_of: Browser) -> None:
                 page_of.run(ANSWER))
     step_of(before)[TIME]["Value"], step_of(before)[MODALITY]["Value"] = ["1145"], ["CT"]
     tally.check("and nothing else", kept_item(pair, "C7") == before, kept_item(pair, "C7"), before)
-    tally.check("it is one item still", page_of.until(f"{ROWS} === 4"), page_of.run(CELLS))
+    tally.check("it is one item still", page_of.until(
+        f"{ROWS} === 4 && document.querySelector('table').textContent.includes('11:45')"),
+        page_of.run(CELLS))
     click(page_of, "[aria-label='Change C7']")
     fill_form(page_of, family="MILLER")
     send_form(page_of)
