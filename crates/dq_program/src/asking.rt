@@ -1,4 +1,7 @@
 //! What the line of a search of the console asks for, by its words.
+ghost use Rattle.std.specs.Prelude.{◌≡◌, ◌++◌, ℕ, List, codes, IfOk, IfSome, MatchBool};
+ghost use Rattle.std.specs.Int.{w16, to_le_bytes};
+ghost use Rattle.dq_program.specs.Asking.{value_spelled, IsValueOf, IsKeyOf, IsPageWord, TakesWord};
 
 use dq_core::ShownPage;
 use dq_dataset::{DataSet, ReadFault, Syntax, read};
@@ -28,22 +31,22 @@ pub struct Asking {
 }
 
 /// The octets of an unsigned short that a text spells.
-fn short_of(alloc: Global, text: &str) -> Result<Option<Vec<u8>>, AllocError> {
+fn short_of(alloc: Global, text: &str) -> Result<Option<Vec<u8>>, AllocError>
+    ensures { IfOk result (λ value. IfSome value (λ octets.
+        (number : ℕ) × (octets.items ≡ to_le_bytes w16 number))) }
+{
     let Ok(number) = text.parse::<u16>() else {
         return Ok(None);
     };
     Ok(Some(Vec::from_slice(alloc, &number.to_le_bytes())?))
 }
 
-/// The octets of a value, which %XX spells too, with the pad that makes them even in number (PS3.5
-/// section 6.2). Values of other than text, UIDs and unsigned shorts cannot be given.
-fn value_of(alloc: Global, vr: Vr, text: &str) -> Result<Option<Vec<u8>>, AllocError> {
-    if vr == Vr::US && !text.is_empty() {
-        return short_of(alloc, text);
-    }
-    if !vr.is_text() && vr != Vr::UI && !text.is_empty() {
-        return Ok(None);
-    }
+/// The octets that a text spells, %XX for one of them, with the pad that makes them even in number
+/// (PS3.5 section 6.2).
+fn value_spelled(alloc: Global, vr: Vr, text: &str) -> Result<Option<Vec<u8>>, AllocError>
+    ensures { IfOk result (λ value. IfSome value (λ octets.
+        octets.items ≡ value_spelled vr text.now)) }
+{
     let mut octets = Vec::new(alloc);
     percent_decode(text.as_bytes()).append_to(&mut octets)?;
     if octets.len() > VALUE_MOST {
@@ -55,30 +58,75 @@ fn value_of(alloc: Global, vr: Vr, text: &str) -> Result<Option<Vec<u8>>, AllocE
     Ok(Some(octets))
 }
 
+/// The octets of a value. Values of other than text, UIDs and unsigned shorts cannot be given.
+fn value_of(alloc: Global, vr: Vr, text: &str) -> Result<Option<Vec<u8>>, AllocError>
+    ensures { IfOk result (λ value. IfSome value (λ octets.
+        IsValueOf vr text.now octets.items)) }
+{
+    if vr == Vr::US && !text.is_empty() {
+        return short_of(alloc, text);
+    }
+    if !vr.is_text() && vr != Vr::UI && !text.is_empty() {
+        return Ok(None);
+    }
+    value_spelled(alloc, vr, text)
+}
+
+/// The attribute of a name, with the value that a text gives it.
+fn key_of(alloc: Global, name: &str, text: &str) -> Result<Option<GivenKey>, AllocError>
+    ensures { IfOk result (λ key. IfSome key (IsKeyOf name.now text.now)) }
+{
+    let Some(tag) = tag_named(name) else {
+        return Ok(None);
+    };
+    let Some(vr) = lookup(tag) else {
+        return Ok(None);
+    };
+    match value_of(alloc, vr, text)? {
+        Some(value) => Ok(Some(GivenKey { tag, value })),
+        None => Ok(None),
+    }
+}
+
+/// What stands before the first equals sign, and what behind it.
+fn halves_of(word: &str) -> Option<(&str, &str)>
+    ensures { IfSome result (λ halves. word.now ≡ halves.0.now ++ codes "=" ++ halves.1.now) }
+{
+    match word.split_once('=') {
+        Some(halves) => Some(halves),
+        None => None,
+    }
+}
+
+/// Whether a name is that of a number of the page.
+fn is_page_word(name: &str) -> bool
+    ensures { MatchBool result (IsPageWord name.now) (Unit {0}) }
+{
+    name == "limit" || name == "offset"
+}
+
 impl Asking {
     /// Takes a word, `KEYWORD=VALUE`, `limit=N` or `offset=N`. The answer is whether it is one.
-    fn take_word(&mut self, alloc: Global, word: &str) -> Result<bool, AllocError> {
-        let Some((name, text)) = word.split_once('=') else {
+    fn take_word(&mut self, alloc: Global, word: &str) -> Result<bool, AllocError>
+        ensures { IfOk result (TakesWord word.now self.old self.new) }
+    {
+        let Some((name, text)) = halves_of(word) else {
             return Ok(false);
         };
-        if name == "limit" || name == "offset" {
+        if is_page_word(name) {
             return Ok(self.take_number(name == "limit", text));
         }
-        let Some(tag) = tag_named(name) else {
+        let Some(key) = key_of(alloc, name, text)? else {
             return Ok(false);
         };
-        let Some(vr) = lookup(tag) else {
-            return Ok(false);
-        };
-        let Some(value) = value_of(alloc, vr, text)? else {
-            return Ok(false);
-        };
-        self.keys.push(GivenKey { tag, value })?;
+        self.keys.push(key)?;
         Ok(true)
     }
 
     /// Takes the limit or the offset of the page.
-    fn take_number(&mut self, is_limit: bool, text: &str) -> bool {
+    fn take_number(&mut self, is_limit: bool, text: &str) -> bool
+        ensures { self.new.keys ≡ self.old.keys }
+    {
         let Ok(number) = text.parse::<usize>() else {
             return false;
         };

@@ -20,7 +20,7 @@ returns-in_ok-close-in-New-clause-served g c =
       _,
       c.in_ok-config.ensures.read,
       rw c.in-New.is (of_new _ rows
-          (λ honest. rw (server.institutions, server.tables) at (c.in_ok-filled-in-New.ensures.served honest)) _
+          (λ honest. (_, rw (server.institutions, server.tables) at (c.in_ok-filled-in-New.ensures.served honest), λ is_in. c.in_ok-close-in-New.ensures)) _
           (λ known is. g.met.Rt.Stores.known_is_honest c.args.rt.now _ known is) c.in_ok-new_store-in-New.ensures.rows),
     )
 
@@ -36,8 +36,21 @@ returns-in_ok-close-in-Found-clause-served g c =
       _,
       c.in_ok-config.ensures.read,
       rw c.in-Found.is (of_found _ rows
-          (λ honest. rw (server.institutions, server.tables) at (c.in_ok-kept-in-Found.ensures.served honest)) _
+          (λ honest. (_, rw (server.institutions, server.tables) at (c.in_ok-kept-in-Found.ensures.served honest), λ is_in. c.in_ok-close-in-Found.ensures)) _
           (λ known is. g.met.Rt.Stores.known_is_honest c.args.rt.now _ known is) c.in_ok-store-in-Found.ensures.rows),
+    )
+
+pub returns-in_ok-serve_by-in-Memory-clause-served : goal.returns-in_ok-serve_by-in-Memory-clause-served
+returns-in_ok-serve_by-in-Memory-clause-served g c =
+    let server = c.in_ok-server-in-Memory.ensures in (
+      _,
+      c.in_ok-config.ensures.read,
+      rw c.in-Memory.is (
+        _,
+        rw (server.institutions, server.tables, c.in_ok-memory-in-Memory.ensures.rows) at
+            (c.in_ok-serve_by-in-Memory.ensures.served g.met.Rt.Stores.memory_is_honest),
+        λ is_in. absurd is_in,
+      ),
     )
 
 pub returns-in_err-serve_by-in-Memory-clause-stops : goal.returns-in_err-serve_by-in-Memory-clause-stops

@@ -1,6 +1,7 @@
-use Rattle.std.proofs.Common.{◌≡◌, false, refl, sym, ap, ◌∙◌}
+use Rattle.std.proofs.Common.{◌≡◌, true, false, refl, sym, ap, ◌∙◌}
 use Rattle.dq_program.specs.Console.{Calling}
-use Rattle.dq_program.specs.Console.Heed.{Offered}
+use Rattle.dq_wires.proofs.Logging.{logs-none}
+use Rattle.dq_program.specs.Console.Heed.{Offered, Closed, Forgotten}
 use Rattle.dq_program.proofs.Heeding.{comes, reads}
 use Rattle.dq_program.proofs.caller.Caller.next.Goals as goal
 
@@ -8,7 +9,7 @@ pub returns-then-is_sending : goal.returns-then-is_sending
 returns-then-is_sending g c =
     let sent = c.send.ensures in
     comes c.send.result c.of.result c.of.ensures
-    record { heed = Offered sent.0; is = c.if-is_sending.ensures; quiet = refl; calls = sent.1; leaves = sent.2 }
+    record { heed = Offered sent.0; is = c.if-is_sending.ensures; quiet = refl; tells = λ institutions names rows done. tt; calls = sent.1; leaves = sent.2 }
 
 pub returns-in-Ok-None : goal.returns-in-Ok-None
 returns-in-Ok-None g c =
@@ -17,3 +18,27 @@ returns-in-Ok-None g c =
     let over : c.args.self.now.is_over ≡ false = ap (λ (v : Calling). v.is_over) (sym c.self.view_is) ∙ c.if-self.false in
     comes c.receive.result c.of-in-Ok-None.result c.of-in-Ok-None.ensures
     (reads _ c.receive.result (c.if-is_sending.ensures, over) none.0 got)
+
+pub returns-then-self : goal.returns-then-self
+returns-then-self g c =
+    let over : c.args.self.now.is_over ≡ true = ap (λ (v : Calling). v.is_over) (sym c.self.view_is) ∙ c.if-self.true in
+    record {
+      heed = Closed;
+      is = (c.if-is_sending.ensures, over);
+      quiet = refl;
+      tells = λ institutions names rows done. tt;
+      calls = logs-none _;
+      leaves = refl;
+    }
+
+pub returns-in-Err : goal.returns-in-Err
+returns-in-Err g c =
+    let over : c.args.self.now.is_over ≡ false = ap (λ (v : Calling). v.is_over) (sym c.self.view_is) ∙ c.if-self.false in
+    record {
+      heed = Forgotten;
+      is = (c.if-is_sending.ensures, over);
+      quiet = refl;
+      tells = λ institutions names rows done. tt;
+      calls = logs-none _;
+      leaves = refl;
+    }
