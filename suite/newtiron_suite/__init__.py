@@ -1,1 +1,2 @@
-"""What the suites share, and the suites that take several files: stores, sockets, web and hostile."""
+"""What the suites share, and the suites that take several files: stores, sockets, web and
+hostile."""

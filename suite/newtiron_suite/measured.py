@@ -7,6 +7,7 @@ import pathlib
 import subprocess
 import sys
 import tempfile
+from collections.abc import Sequence
 
 # after so many seconds of the processor a run is ended
 LONGEST = 40
@@ -24,17 +25,19 @@ print(os.waitstatus_to_exitcode(status), used.ru_utime + used.ru_stime, used.ru_
 class Cost:
     """What a run came to."""
 
-    def __init__(self, status, seconds, megabytes):
+    def __init__(self, status: int | None, seconds: float, megabytes: float) -> None:
         self.status, self.seconds, self.megabytes = status, seconds, megabytes
 
-    def __str__(self):
+    def __str__(self) -> str:
         return f"exit {self.status}, {self.seconds:.3f} s, {self.megabytes:.1f} MB"
 
 
-def measured(words, capture, out):
+def measured(words: Sequence[object], capture: pathlib.Path | str, out: pathlib.Path) -> Cost:
     """Runs a program on the file of a capture, with its output in another."""
-    command = [sys.executable, "-S", "-E", "-c", LAUNCHER, str(LONGEST), str(capture), str(out), *map(str, words)]
-    told = subprocess.run(command, capture_output=True, text=True, check=False).stdout.split("\n")[0].split(" ")
+    command = [sys.executable, "-S", "-E", "-c", LAUNCHER, str(LONGEST), str(capture), str(out),
+               *map(str, words)]
+    told = subprocess.run(command, capture_output=True, text=True,
+                          check=False).stdout.split("\n")[0].split(" ")
     if len(told) != 3:
         return Cost(None, 0.0, 0.0)
     return Cost(int(told[0]), float(told[1]), int(told[2]) / 1024)
@@ -43,30 +46,34 @@ def measured(words, capture, out):
 class Play:
     """A capture that is run again and again: the least that it costs, and what it is answered."""
 
-    def __init__(self, words, lines):
+    cost: Cost | None
+
+    def __init__(self, words: Sequence[object], lines: Sequence[str]) -> None:
         self.words = words
         self.folder = tempfile.TemporaryDirectory()
-        self.capture, self.out = (pathlib.Path(self.folder.name) / name for name in ("capture", "out"))
+        self.capture, self.out = (pathlib.Path(self.folder.name) / name
+                                  for name in ("capture", "out"))
         with open(self.capture, "w", encoding="ascii") as file:
             file.writelines(lines)
         self.cost = None
 
-    def run(self, times=1):
+    def run(self, times: int = 1) -> Cost:
         for _ in range(times):
             cost = measured(self.words, self.capture, self.out)
             if self.cost is not None:
-                cost = Cost(max(cost.status or 0, self.cost.status or 0), min(cost.seconds, self.cost.seconds),
+                cost = Cost(max(cost.status or 0, self.cost.status or 0),
+                            min(cost.seconds, self.cost.seconds),
                             min(cost.megabytes, self.cost.megabytes))
             self.cost = cost
         return self.cost
 
-    def answers(self):
+    def answers(self) -> list[str]:
         with open(self.out, encoding="ascii") as file:
             return file.read().split("\n")[:-1]
 
-    def close(self):
+    def close(self) -> None:
         self.folder.cleanup()
 
 
-def processors():
+def processors() -> int:
     return len(os.sched_getaffinity(0))

@@ -1,4 +1,5 @@
-"""What a suite counts: comparisons that passed and failed, in parts, up to the line 'N passed, M failed'."""
+"""What a suite counts: comparisons that passed and failed, in parts, up to the line 'N passed, M
+failed'."""
 import os
 import pathlib
 import tempfile
@@ -47,8 +48,10 @@ def no_choice(choice: str) -> None:
     """The parts have nothing to be chosen from."""
 
 
-def play_parts(parts: Mapping[str, Part], words: Iterable[str], choose: Callable[[str], object] = no_choice) -> int:
-    """Plays all parts, or those that words name as PART or PART=CHOICE, each in a folder of its own; the exit status."""
+def play_parts(parts: Mapping[str, Part], words: Iterable[str],
+               choose: Callable[[str], object] = no_choice) -> int:
+    """Plays all parts, or those that words name as PART or PART=CHOICE, each in a folder of its
+    own; the exit status."""
     tally = Tally()
     for word in words or parts:
         name, _, choice = word.partition("=")
@@ -64,6 +67,7 @@ def play_parts(parts: Mapping[str, Part], words: Iterable[str], choose: Callable
                 tally.check(name, False, repr(error))
                 if "TRACE" in os.environ:
                     raise
-        print(f"{name}: {tally.compared() - before} compared in {time.monotonic() - begun:.1f} s", flush=True)
+        print(f"{name}: {tally.compared() - before} compared in {time.monotonic() - begun:.1f} s",
+              flush=True)
     tally.check("something was compared", tally.passed > 0)
     return tally.end()

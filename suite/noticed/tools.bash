@@ -40,6 +40,28 @@ notices 'a tool that ends before it moves' 'stopped' "$wrong/sends" "$right" sto
 none=$(without no_changed "sed -i 's/ROUNDS or 2000/0/' sends")
 notices 'no files that are changed' 'changed files, some of each kind' "$none/sends" "$right" files
 
+# the tools, as users run them
+passes 'the tools' "$top/suite/tools"
+tools_wrongly() {
+    notices "tools: $1" "$2" "$(without "tools_${1// /_}" "rm ../tools; cp -r '$top/tools' ..; sed -i '$4' $5")/tools" "$3"
+}
+tools_wrongly 'values that are not padded' 'readable lines: the line' send_entry \
+    's/        value += (b" " if vr in TEXT.*/        pass/' ../tools/send_entry.py
+tools_wrongly 'a refusal with another status' 'an item that is kept: what is printed' send_entry \
+    's/"refused": 1}/"refused": 2}/' ../tools/send_entry.py
+tools_wrongly 'a digest of something else' 'the digest of the token' web_key 's/sha256/sha512/' ../tools/web_key
+tools_wrongly 'a file that all may read' "a new file is its owner" web_key 's/0o600/0o644/' ../tools/web_key
+tools_wrongly 'a PDU that is not known' 'the end of an association' show \
+    's/0x06: .A-RELEASE-RP., //' newtiron_suite/model/names.py
+
+# what the checkers of Python find
+if command -v mypy > "$work/nothing"; then
+    checked=$(without checked ':')
+    echo 'x: int = "text" + "'"$(printf 'x%.0s' {1..100})"'"' > "$checked/newtiron_suite/faulty.py"
+    notices 'a line that is too long' 'suite/newtiron_suite/faulty.py: lines' "$checked/python" lines
+    notices 'a type that is wrong' mypy "$checked/python" types
+fi
+
 # what is shown, and what composing refuses
 shows=$(without shown ':')
 for one in texts refusals rounds exact replies torn; do
@@ -58,7 +80,7 @@ wrong=$(without wrong_refusals "sed -i 's/raise BadScene(word, f\"{name} stands 
 notices 'a keyword that may stand twice' "refused_scenes, line 1: 'Modality=MR'" "$wrong/shows" refusals
 wrong=$(without wrong_rounds "sed -i 's/zeros:{len(value)}/zeros:{len(value) - 2}/' newtiron_suite/model/described.py")
 notices 'a value that is shown shorter' 'data_limits again' "$wrong/shows" rounds
-wrong=$(without wrong_words "sed -i 's/made == \\[octets\\]/False/; s/is_exact=False/is_exact=True/' newtiron_suite/model/shown.py shows")
+wrong=$(without wrong_words "sed -i 's/made == \\[octets\\]/False/; s/is_exact: bool = False/is_exact: bool = True/' newtiron_suite/model/shown.py shows")
 notices 'octets where there are words' 'titles in words' "$wrong/shows" rounds
 wrong=$(without wrong_octets "sed -i 's/made == \\[octets\\]/bool(made)/' newtiron_suite/model/shown.py")
 notices 'words of other octets' 'echo_dcmtk.capture, exactly' "$wrong/shows" exact

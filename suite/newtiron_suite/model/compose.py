@@ -5,49 +5,66 @@ A scene is lines like these; N is a connection, I a presentation context, M a me
     open N                                           opens a connection
     associate N CALLED CALLING I=CLASS:SYNTAX,SYNTAX ..  [max LENGTH] [version V] [application UID]
     echo N I M
-    store N I M CLASS INSTANCE DATA                  the data set is spelled in the context's syntax, as proposed first
+    store N I M CLASS INSTANCE DATA                  the data set is spelled in the context's
+                                                     syntax, as proposed first
     find N I M CLASS DATA
     create N I M INSTANCE DATA
     set N I M INSTANCE DATA
     cancel N I M
     release N          abort N          end N
-    pull N                                           asks for the next answers of the C-FIND that is open
+    pull N                                           asks for the next answers of the C-FIND that is
+                                                     open
     piece N HEX                                      octets as they are
     schedule NAME DATA                               in Explicit
     withdraw NAME ID
-    cut COUNT                                        from here on pieces have at most so many octets; 0: whole messages
-    join                                             the next line's octets go out with those of the line before it
-    each FIRST LAST LINE                             the line for each of these numbers, which @ stands for in its words;
-                                                     messages go out together
+    cut COUNT                                        from here on pieces have at most so many
+                                                     octets; 0: whole messages
+    join                                             the next line's octets go out with those of the
+                                                     line before it
+    each FIRST LAST LINE                             the line for each of these numbers, which @
+                                                     stands for in its words; messages go out
+                                                     together
 
-DATA is keywords of PS3.6 with values, as PatientName=DOE^A, and `Keyword= { .. } { .. }` for a sequence's items. Words
-with spaces stand in double quotes. A tag that has no keyword here is GGGGEEEE:VR=value, octets are written 0xHEX, and
-zeros:COUNT is so many zero octets. `nodata` in place of DATA sends a command without a data set. A last word `raw:HEX`
-adds octets after the data set as they are, such as no data set has. A line that begins with a space goes on with the line
-before it.
-CLASS is a word of sop_classes.py, as CT, or a UID; SYNTAX is explicit, implicit or a UID.
+DATA is keywords of PS3.6 with values, as PatientName=DOE^A, and `Keyword= { .. } { .. }` for a
+sequence's items. Words with spaces stand in double quotes. A tag that has no keyword here is
+GGGGEEEE:VR=value, octets are written 0xHEX, and zeros:COUNT is so many zero octets. `nodata` in
+place of DATA sends a command without a data set. A last word `raw:HEX` adds octets after the data
+set as they are, such as no data set has. A line that begins with a space goes on with the line
+before it. CLASS is a word of sop_classes.py, as CT, or a UID; SYNTAX is explicit, implicit or a
+UID.
 
-On a line that is not understood it tells the line, the word and what was expected there, and exits with 2.
+On a line that is not understood it tells the line, the word and what was expected there, and exits
+with 2.
 """
+from __future__ import annotations
+
 import difflib
 import re
 import shlex
 import sys
+from collections.abc import Iterable, Iterator
+from typing import Any
 
 from . import data_sets, sop_classes
+from .data_sets import Element
 from .dictionary import KEYWORDS
-from .messages import (C_CANCEL, C_ECHO, C_FIND, C_STORE, DATA_SET, N_CREATE, N_SET, NO_DATA_SET, command_set, form_of,
-                      padded, sent, two)
-from .upper_layer import ABORT, APPLICATION_CONTEXT, EXPLICIT, IMPLICIT, RELEASE_RQ, pdu, request_pdu
+from .messages import (C_CANCEL, C_ECHO, C_FIND, C_STORE, DATA_SET, NO_DATA_SET, N_CREATE, N_SET,
+                       command_set, form_of, padded, sent, two)
+from .upper_layer import (ABORT, APPLICATION_CONTEXT, EXPLICIT, IMPLICIT, RELEASE_RQ, pdu,
+                          request_pdu)
 
 CLASSES = sop_classes.UIDS
 SYNTAXES = {"explicit": EXPLICIT, "implicit": IMPLICIT}
 # the words that a line has, by its first one
-LINES = {"open": "open N", "end": "end N", "associate": "associate N CALLED CALLING I=CLASS:SYNTAX,SYNTAX ..",
+LINES = {"open": "open N", "end": "end N",
+         "associate": "associate N CALLED CALLING I=CLASS:SYNTAX,SYNTAX ..",
          "echo": "echo N I M", "cancel": "cancel N I M", "store": "store N I M CLASS INSTANCE DATA",
-         "find": "find N I M CLASS DATA", "create": "create N I M INSTANCE DATA", "set": "set N I M INSTANCE DATA",
-         "release": "release N", "abort": "abort N", "piece": "piece N HEX", "schedule": "schedule NAME DATA",
-         "withdraw": "withdraw NAME ID", "cut": "cut COUNT", "join": "join", "pull": "pull N", "each": "each FIRST LAST LINE"}
+         "find": "find N I M CLASS DATA", "create": "create N I M INSTANCE DATA",
+         "set": "set N I M INSTANCE DATA",
+         "release": "release N", "abort": "abort N", "piece": "piece N HEX",
+         "schedule": "schedule NAME DATA",
+         "withdraw": "withdraw NAME ID", "cut": "cut COUNT", "join": "join", "pull": "pull N",
+         "each": "each FIRST LAST LINE"}
 MESSAGES = ("echo", "store", "find", "create", "set", "cancel")
 OPTIONS = ("max", "version", "application")
 
@@ -55,7 +72,9 @@ OPTIONS = ("max", "version", "application")
 class Word(str):
     """A word that knows the line that it stands on."""
 
-    def __new__(cls, text, line):
+    line: int | None
+
+    def __new__(cls, text: str, line: int | None) -> Word:
         word = super().__new__(cls, text)
         word.line = line
         return word
@@ -64,14 +83,15 @@ class Word(str):
 class BadScene(ValueError):
     """A word that is not understood, and what was expected in its place."""
 
-    def __init__(self, word, expected):
+    def __init__(self, word: str, expected: str) -> None:
         shown = str(word) if len(word) <= 60 else f"{word[:60]}.."
         super().__init__(f"'{shown}': {expected}")
         self.line = getattr(word, "line", None)
 
 
-def words_of(text, line):
-    """The words of a line. Those without quotations are split apart: shlex takes too long for a million octets."""
+def words_of(text: str, line: int | None) -> list[Word]:
+    """The words of a line. Those without quotations are split apart: shlex takes too long for a
+    million octets."""
     if not re.search(r"[\"'\\]", text):
         return [Word(one, line) for one in re.split("[ \t\r\n]+", text.strip(" \t\r\n"))]
     try:
@@ -80,33 +100,34 @@ def words_of(text, line):
         raise BadScene(Word(text.strip(), line), "a quotation is not closed") from None
 
 
-def meant(word, known):
+def meant(word: str, known: dict[str, Any]) -> str:
     """What a misspelt word may have been, as the end of a message."""
     close = difflib.get_close_matches(word, list(known), 1)
     return f" (is it {close[0]}?)" if close else ""
 
 
-def number_of(word, most):
+def number_of(word: str, most: int) -> int:
     if not re.fullmatch("[0-9]{1,10}", word) or int(word) > most:
         raise BadScene(word, f"a number up to {most} was expected")
     return int(word)
 
 
-def hexadecimal(word, text):
+def hexadecimal(word: str, text: str) -> bytes:
     if not re.fullmatch("([0-9A-Fa-f]{2})*", text):
         raise BadScene(word, "hexadecimal digits were expected, two for each octet")
     return bytes.fromhex(text)
 
 
-def uid_of(word, name, known, what):
+def uid_of(word: Word, name: str, known: dict[str, bytes], what: str) -> bytes | None:
     """A UID by its short name, or as it is."""
     if name not in known and not re.fullmatch("[0-9.]+", name):
         place = "" if word == name else f" in place of '{name}'"
-        raise BadScene(word, f"{what} was expected{place}: {', '.join(known)} or a UID{meant(name, known)}")
+        raise BadScene(word, f"{what} was expected{place}: {', '.join(known)} or a "
+                             f"UID{meant(name, known)}")
     return known.get(name, name.encode())
 
 
-def spelled(text, word=None):
+def spelled(text: str, word: str | None = None) -> bytes:
     """The octets that a value in words stands for; `word` is what is told where they are none."""
     if text.startswith("0x"):
         return hexadecimal(word or text, text[2:])
@@ -117,21 +138,22 @@ def spelled(text, word=None):
     return text.encode()
 
 
-def tag_of(name):
+def tag_of(name: str) -> tuple[tuple[int, int], str]:
     key = name.partition("=")[0]
     if key in KEYWORDS:
         tag = KEYWORDS[key]
         return tag, data_sets.DICTIONARY[tag]
     found = re.fullmatch("([0-9A-Fa-f]{4})([0-9A-Fa-f]{4}):([A-Z]{2})", key)
     if not found:
-        raise BadScene(name, f"Keyword=value was expected, with a keyword that is known{meant(key, KEYWORDS)}, "
+        raise BadScene(name, "Keyword=value was expected, with a keyword that is "
+                             f"known{meant(key, KEYWORDS)}, "
                              "or GGGGEEEE:VR=value")
     if found[3] not in data_sets.SHORT | data_sets.LONG:
         raise BadScene(name, f"{found[3]} is no value representation")
     return (int(found[1], 16), int(found[2], 16)), found[3]
 
 
-def items(words, name):
+def items(words: list[str], name: str) -> list[list[Element]]:
     """The items in braces that follow a sequence's name."""
     found = []
     while words and words[0] == "{":
@@ -143,7 +165,7 @@ def items(words, name):
     return found
 
 
-def elements(words):
+def elements(words: list[str]) -> list[Element]:
     """Elements up to a closing brace or the end."""
     found, tags = [], set()
     while words and words[0] != "}":
@@ -159,11 +181,12 @@ def elements(words):
         if vr == "SQ" and text:
             raise BadScene(word, f"items in braces, which stand apart, were expected after {name}=")
         tags.add(tag)
-        found.append((tag, vr, items(words, name) if vr == "SQ" else data_sets.padded(vr, spelled(text, word))))
+        found.append((tag, vr, items(words, name) if vr == "SQ"
+                      else data_sets.padded(vr, spelled(text, word))))
     return sorted(found)
 
 
-def data_set(words):
+def data_set(words: list[Any]) -> list[Element]:
     """The elements that all these words spell."""
     found = elements(words)
     if words:
@@ -171,7 +194,7 @@ def data_set(words):
     return found
 
 
-def spelled_data_set(words, syntax):
+def spelled_data_set(words: list[Word], syntax: str) -> bytes:
     """The octets of a data set, and those after it that are given as they are."""
     last = words.pop() if words and words[-1].startswith("raw:") else None
     end = b"" if last is None else hexadecimal(last, last[4:])
@@ -179,13 +202,15 @@ def spelled_data_set(words, syntax):
 
 
 class Scene:
-    def __init__(self):
+    joined: bytes | None
+
+    def __init__(self) -> None:
         self.contexts = {}
         self.most = 0
         self.joined = None
         self.lines = []
 
-    def piece(self, number, octets):
+    def piece(self, number: Word, octets: bytes) -> None:
         most = self.most or max(len(octets), 1)
         if self.joined is not None:
             before, self.joined = self.joined, None
@@ -194,16 +219,19 @@ class Scene:
         for at in range(0, max(len(octets), 1), most):
             self.lines.append(f"piece {number} {octets[at:at + most].hex() or '-'}")
 
-    def proposed(self, number, context):
+    def proposed(self, number: Word, context: Word) -> tuple[bytes, list[bytes], int]:
         """The class of a context of the connection's association, and its syntaxes."""
         if (number, number_of(context, 255)) in self.contexts:
             return self.contexts[number, int(context)]
         there = [str(one) for connection, one in self.contexts if connection == number]
         if not there:
-            raise BadScene(number, "a connection was expected for which a line 'associate' stands before, with contexts")
-        raise BadScene(context, f"a context was expected that connection {number} has proposed: {', '.join(there)}")
+            raise BadScene(number, "a connection was expected for which a line 'associate' stands "
+                                   "before, with contexts")
+        raise BadScene(context, f"a context was expected that connection {number} has proposed: "
+                                f"{', '.join(there)}")
 
-    def message(self, words, field, sop_class, elements):
+    def message(self, words: list[Word], field: int, sop_class: bytes | None,
+                elements: tuple[bytes, list[Word]]) -> None:
         number, context = words[0], number_of(words[1], 255)
         proposed, syntaxes, _ = self.proposed(words[0], words[1])
         data = None
@@ -212,14 +240,16 @@ class Scene:
         kind = two(NO_DATA_SET if data is None else DATA_SET)
         identity = (0x0120 if field == C_CANCEL else 0x0110, two(number_of(words[2], 0xFFFF)))
         is_set = field == N_SET
-        parts = [(0x0003 if is_set else 0x0002, padded(sop_class or proposed)), (0x0100, two(field)), identity,
+        parts = [(0x0003 if is_set else 0x0002, padded(sop_class or proposed)),
+                 (0x0100, two(field)), identity,
                  (0x0800, kind)]
         if elements[0]:
             parts.append((0x1001 if is_set else 0x1000, padded(elements[0])))
         self.piece(number, sent(context, command_set(parts), data, 0))
 
-    def associate(self, words):
-        number, options, contexts, rest = words[0], {}, [], list(words[3:])
+    def associate(self, words: list[Word]) -> None:
+        number, contexts, rest = words[0], [], list(words[3:])
+        options: dict[str, str] = {}
         while rest:
             word = rest.pop(0)
             if "=" in word:
@@ -227,20 +257,23 @@ class Scene:
             elif word in OPTIONS and rest:
                 options[word] = rest.pop(0)
             else:
-                raise BadScene(word, f"I=CLASS:SYNTAX,SYNTAX or one of {', '.join(OPTIONS)} with a value was expected")
+                raise BadScene(word, f"I=CLASS:SYNTAX,SYNTAX or one of {', '.join(OPTIONS)} with a "
+                                     "value was expected")
         for identity, sop_class, syntaxes in contexts:
             self.contexts[number, identity] = (sop_class, syntaxes, 0)
         maximum = options.get("max", "16384")
         self.piece(number, request_pdu(title(words[1]), title(words[2]), contexts,
-                                       None if maximum == "none" else number_of(maximum, 0xFFFFFFFF),
+                                       None if maximum == "none"
+                                       else number_of(maximum, 0xFFFFFFFF),
                                        number_of(options.get("version", "1"), 0xFFFF),
-                                       options.get("application", APPLICATION_CONTEXT.decode()).encode()))
+                                       options.get("application",
+                                                   APPLICATION_CONTEXT.decode()).encode()))
 
-    def play_line(self, line):
+    def play_line(self, line: str) -> None:
         word, *words = words_of(line, None)
         self.play(word, words)
 
-    def play(self, word, words):
+    def play(self, word: str, words: list[Any]) -> None:
         if word not in LINES:
             raise BadScene(word, f"no line begins so{meant(word, LINES)}")
         check_count(word, words)
@@ -260,9 +293,10 @@ class Scene:
             try:
                 self.play_on_connection(word, words)
             except OverflowError:
-                raise BadScene(word, "words were expected for which the lengths of a PDU have room") from None
+                raise BadScene(
+                    word, "words were expected for which the lengths of a PDU have room") from None
 
-    def each(self, words):
+    def each(self, words: list[Word]) -> None:
         """A line for each of the numbers."""
         first, last, word = number_of(words[0], 999999), number_of(words[1], 999999), words[2]
         if last < first:
@@ -274,12 +308,13 @@ class Scene:
                 self.play("join", [])
             self.play(word, [Word(one.replace("@", str(number)), one.line) for one in words[3:]])
 
-    def order(self, word, words):
+    def order(self, word: str, words: list[Word]) -> None:
         """An order of the console."""
-        octets = spelled_data_set(words[1:], data_sets.EXPLICIT) if word == "schedule" else spelled(words[1])
+        octets = spelled_data_set(words[1:],
+                                  data_sets.EXPLICIT) if word == "schedule" else spelled(words[1])
         self.lines.append(f"{word} {words[0]} {octets.hex() or '-'}")
 
-    def play_on_connection(self, word, words):
+    def play_on_connection(self, word: str, words: list[Word]) -> None:
         if word in ("open", "end", "pull"):
             self.lines.append(f"{word} {words[0]}")
         elif word == "associate":
@@ -296,17 +331,18 @@ class Scene:
             self.message(words, C_STORE if word == "store" else C_FIND, sop_class, (identity, data))
         else:
             field = N_CREATE if word == "create" else N_SET
-            self.message(words, field, None, (b"" if words[3] == "-" else words[3].encode(), words[4:]))
+            self.message(words, field, None, (b"" if words[3] == "-" else words[3].encode(),
+                                              words[4:]))
 
 
-def title(word):
+def title(word: Word) -> bytes:
     octets = word.encode()
     if len(octets) > 16:
         raise BadScene(word, "a title of 16 octets at most was expected")
     return octets
 
 
-def proposal(word):
+def proposal(word: Word) -> tuple[int, bytes, list[bytes]]:
     """A presentation context that is proposed: its id, its class, its syntaxes."""
     identity, _, proposed = word.partition("=")
     name, colon, syntaxes = proposed.partition(":")
@@ -316,7 +352,7 @@ def proposal(word):
             [uid_of(word, one, SYNTAXES, "a syntax") for one in syntaxes.split(",")])
 
 
-def check_count(word, words):
+def check_count(word: str, words: list[Word]) -> None:
     """As many words stand after the first one as its line has, or more where others may follow."""
     form = LINES[word].split(" ")[1:]
     is_open = form[-1:] in (["DATA"], [".."], ["LINE"])
@@ -327,8 +363,9 @@ def check_count(word, words):
         raise BadScene(words[least], f"a word too many: {LINES[word]}")
 
 
-def statements(lines):
-    """Comments as they are, and the words of each other line with those of the lines that go on with it."""
+def statements(lines: Iterable[str]) -> Iterator[Any]:
+    """Comments as they are, and the words of each other line with those of the lines that go on
+    with it."""
     words = []
     for number, line in enumerate(lines, 1):
         text = line.strip()
@@ -343,7 +380,7 @@ def statements(lines):
         yield words
 
 
-def composed(lines):
+def composed(lines: Iterable[str]) -> list[str]:
     """The capture lines of a scene."""
     scene = Scene()
     for one in statements(lines):

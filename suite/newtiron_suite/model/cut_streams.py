@@ -1,7 +1,8 @@
 """Each connection's octets, ended after each of them: suite/models cut_streams < CAPTURE > CAPTURE
 
-What came on a connection is sent on connections of its own, to each of its octets in turn: as one piece, and then the end. The
-console's orders stand first. How many octets the connections had is told on standard error.
+What came on a connection is sent on connections of its own, to each of its octets in turn: as one
+piece, and then the end. The console's orders stand first. How many octets the connections had is
+told on standard error.
 """
 import sys
 

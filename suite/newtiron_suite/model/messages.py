@@ -8,19 +8,19 @@ C_STORE, C_FIND, C_ECHO, N_SET, N_CREATE, C_CANCEL = 0x0001, 0x0020, 0x0030, 0x0
 NO_DATA_SET, DATA_SET = 0x0101, 0x0001
 
 
-def form_of(syntax):
+def form_of(syntax: bytes) -> str:
     """What data_sets calls a transfer syntax."""
     return data_sets.EXPLICIT if syntax == EXPLICIT else data_sets.IMPLICIT
 
 
-def little(octets):
+def little(octets: bytes) -> int:
     return int.from_bytes(octets, "little")
 
 
 class Command:
     """The fields of a command set that was received."""
 
-    def __init__(self, octets):
+    def __init__(self, octets: bytes) -> None:
         if len(octets) > LONGEST_COMMAND:
             raise BadPdu(INVALID)
         try:
@@ -41,46 +41,48 @@ class Command:
         self.sop_class = self.uid(0x0003 if is_set else 0x0002)
         self.sop_instance = self.uid(0x1001 if is_set else 0x1000)
 
-    def number(self, element):
+    def number(self, element: int) -> int:
         value = self.values.get(element)
         if not isinstance(value, bytes) or len(value) != 2:
             raise BadPdu(INVALID)
         return little(value)
 
-    def uid(self, element):
+    def uid(self, element: int) -> bytes:
         value = self.values.get(element, b"")
         return value.rstrip(b"\x00 ") if isinstance(value, bytes) else b""
 
-    def limit(self):
+    def limit(self) -> int:
         return LONGEST_STORED if self.field == C_STORE else LONGEST_OTHER
 
 
-def element(number, value):
+def element(number: int, value: bytes) -> bytes:
     return b"\x00\x00" + number.to_bytes(2, "little") + len(value).to_bytes(4, "little") + value
 
 
-def two(value):
+def two(value: int) -> bytes:
     return value.to_bytes(2, "little")
 
 
-def padded(octets):
+def padded(octets: bytes) -> bytes:
     return octets + b"\x00" * (len(octets) % 2)
 
 
-def command_set(elements):
+def command_set(elements: list[tuple[int, bytes]]) -> bytes:
     body = b"".join(element(number, value) for number, value in elements)
     return element(0x0000, len(body).to_bytes(4, "little")) + body
 
 
-def response(command, sop_class, status, with_data=False, instance=b""):
-    elements = [(0x0002, padded(sop_class)), (0x0100, two(command.field | 0x8000)), (0x0120, two(command.identity)),
+def response(command: Command, sop_class: bytes, status: int, with_data: bool = False,
+             instance: bytes = b"") -> bytes:
+    elements = [(0x0002, padded(sop_class)), (0x0100, two(command.field | 0x8000)),
+                (0x0120, two(command.identity)),
                 (0x0800, two(DATA_SET if with_data else NO_DATA_SET)), (0x0900, two(status))]
     if instance:
         elements.append((0x1000, padded(instance)))
     return command_set(elements)
 
 
-def sent(context, octets, data, maximum):
+def sent(context: int, octets: bytes, data: bytes | None, maximum: int | None) -> bytes:
     """A message as it goes out: its command set and, if there is one, its data set."""
     out = fragments(context, True, octets, maximum)
     return out if data is None else out + fragments(context, False, data, maximum)
@@ -89,14 +91,19 @@ def sent(context, octets, data, maximum):
 class Assembler:
     """Messages from presentation data values."""
 
-    def __init__(self, accepted):
+    command: Command | None
+    context: int | None
+
+    def __init__(self, accepted: set[int]) -> None:
         self.accepted = accepted
         self.context = None
         self.command = None
         self.octets = b""
 
-    def take(self, context, control, fragment):
-        """The message (context, command, octets or None where they passed the limit) that a PDV completes, or None."""
+    def take(self, context: int, control: int,
+             fragment: bytes) -> tuple[int, Command, bytes] | None:
+        """The message (context, command, octets or None where they passed the limit) that a PDV
+        completes, or None."""
         if context not in self.accepted or self.context not in (None, context):
             raise BadPdu(INVALID)
         if bool(control & 1) != (self.command is None):
@@ -116,7 +123,7 @@ class Assembler:
         octets = self.octets if len(self.octets) <= self.command.limit() else None
         return self.complete(self.command, octets)
 
-    def complete(self, command, octets):
+    def complete(self, command: Command, octets: bytes) -> tuple[int, Command, bytes]:
         message = (self.context, command, octets)
         self.context, self.command, self.octets = None, None, b""
         return message

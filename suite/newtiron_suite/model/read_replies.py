@@ -1,10 +1,14 @@
-"""Replies in words: read_replies.py < REPLIES, the lines that the program prints or that are kept as expected.
+"""Replies in words: read_replies.py < REPLIES, the lines that the program prints or that are kept
+as expected.
 
-It prints a line for each, with its number, what each PDU of the reply is, and `close`: `accepted` with the result of each
-context; `rejected` and `aborted` with their numbers; `released`; and for each response its status, with its data set in the
-words of compose.py where it has one. Other lines stay as they are. It is what suites count; tools/show shows all to people.
+It prints a line for each, with its number, what each PDU of the reply is, and `close`: `accepted`
+with the result of each context; `rejected` and `aborted` with their numbers; `released`; and for
+each response its status, with its data set in the words of compose.py where it has one. Other lines
+stay as they are. It is what suites count; tools/show shows all to people.
 """
 import sys
+from collections.abc import Iterator
+from typing import Any
 
 from . import data_sets
 from .messages import form_of, little
@@ -14,17 +18,18 @@ from .upper_layer import ABORT, ACCEPT, IMPLICIT, P_DATA, REJECT, RELEASE_RP, bi
 STATUS, KIND, NO_DATA_SET = 0x0900, 0x0800, 0x0101
 
 
-def pdus(octets):
+def pdus(octets: bytes) -> Iterator[tuple[int, bytes]]:
     while octets:
         length = big(octets[2:6])
         yield octets[0], octets[6:6 + length]
         octets = octets[6 + length:]
 
 
-def word(tag, vr, value):
+def word(tag: tuple[int, int], vr: str, value: Any) -> str:
     name = KEYWORDS_BY_TAG.get(tag, f"{tag[0]:04X}{tag[1]:04X}:{vr}")
     if vr == "SQ":
-        return f"{name}= " + " ".join("{ " + " ".join(word(*one) for one in item) + " }" for item in value)
+        return f"{name}= " + " ".join("{ " + " ".join(word(*one) for one in item) + " }"
+                                      for item in value)
     text = value.decode("latin-1") if vr in data_sets.TEXT or vr == "UI" else "0x" + value.hex()
     return f"{name}={text.rstrip(chr(0) + ' ')}"
 
@@ -32,12 +37,14 @@ def word(tag, vr, value):
 class Connection:
     """What is needed of one connection to read its replies."""
 
-    def __init__(self):
+    status: str | None
+
+    def __init__(self) -> None:
         self.syntaxes = {}
         self.status = None
         self.octets = b""
 
-    def accepted(self, body):
+    def accepted(self, body: bytes) -> str:
         results = []
         for kind, part in items(body[68:]):
             if kind == 0x21:
@@ -45,7 +52,7 @@ class Connection:
                 results.append(f"{part[0]}:{part[2]}")
         return " ".join(["accepted", *results])
 
-    def values(self, body):
+    def values(self, body: bytes) -> Iterator[Any]:
         """The responses that the PDU completes."""
         at = 0
         while at < len(body):
@@ -67,7 +74,7 @@ class Connection:
                 found = data_sets.elements(data_sets.Octets(octets), False, syntax, 0)
                 yield " ".join([self.status, "{", *(word(*one) for one in found), "}"])
 
-    def read(self, kind, body):
+    def read(self, kind: int, body: bytes) -> Iterator[str]:
         if kind == P_DATA:
             yield from self.values(body)
         else:

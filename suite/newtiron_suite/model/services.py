@@ -1,14 +1,18 @@
-"""What messages are answered with (PS3.4 annexes A, B, C, F and K, PS3.7 annex C), over one institution's records."""
+"""What messages are answered with (PS3.4 annexes A, B, C, F and K, PS3.7 annex C), over one
+institution's records."""
 import re
 from dataclasses import dataclass, field
+from typing import Any
 
 from . import data_sets, matching
+from .data_sets import Element, Tag
 from .matching import element_of, only_value, trimmed, values
-from .messages import form_of
+from .messages import Command, form_of
 from .upper_layer import EXPLICIT
 
 SUCCESS, B006, PENDING, PENDING_OPTIONAL = 0x0000, 0xB006, 0xFF00, 0xFF01
-OUT_OF_RESOURCES, MISMATCH, NOT_UNDERSTOOD, WRONG_SERIES, WRONG_STUDY = 0xA700, 0xA900, 0xC000, 0xC001, 0xC002
+OUT_OF_RESOURCES, MISMATCH, NOT_UNDERSTOOD, WRONG_SERIES, WRONG_STUDY = (0xA700, 0xA900, 0xC000,
+                                                                         0xC001, 0xC002)
 LONGEST_ENTRY, LONGEST_STEP = 1048576, 4194304
 
 SOP_CLASS, SOP_INSTANCE = (0x0008, 0x0016), (0x0008, 0x0018)
@@ -16,31 +20,33 @@ STUDY, SERIES, IMAGE = (0x0020, 0x000D), (0x0020, 0x000E), (0x0008, 0x0018)
 LEVEL, MODALITY, MODALITIES = (0x0008, 0x0052), (0x0008, 0x0060), (0x0008, 0x0061)
 STATE, SCHEDULED_STEP, STEP_ID = (0x0040, 0x0252), (0x0040, 0x0100), (0x0040, 0x0009)
 STEP_ATTRIBUTES = (0x0040, 0x0270)
-FIXED = [MODALITY, (0x0040, 0x0241), (0x0040, 0x0244), (0x0040, 0x0245), (0x0040, 0x0253), (0x0040, 0x0270)]
+FIXED = [MODALITY, (0x0040, 0x0241), (0x0040, 0x0244), (0x0040, 0x0245), (0x0040, 0x0253),
+         (0x0040, 0x0270)]
 
 
 class Refused(Exception):
-    def __init__(self, status):
+    def __init__(self, status: int) -> None:
         super().__init__(status)
         self.status = status
 
 
 @dataclass
 class Records:
-    """One institution's records: by key, the key above and the data set; of an entry whether a step has started it, and the data
-    set; of a step the data set."""
-    limits: dict
-    studies: dict = field(default_factory=dict)
-    series: dict = field(default_factory=dict)
-    images: dict = field(default_factory=dict)
-    entries: dict = field(default_factory=dict)
-    steps: dict = field(default_factory=dict)
+    """One institution's records: by key, the key above and the data set; of an entry whether a step
+    has started it, and the data set; of a step the data set."""
+    limits: dict[str, int]
+    studies: dict[Any, Any] = field(default_factory=dict)
+    series: dict[Any, Any] = field(default_factory=dict)
+    images: dict[Any, Any] = field(default_factory=dict)
+    entries: dict[Any, Any] = field(default_factory=dict)
+    steps: dict[Any, Any] = field(default_factory=dict)
 
-    def counts(self):
-        return [len(part) for part in (self.studies, self.series, self.images, self.entries, self.steps)]
+    def counts(self) -> list[int]:
+        return [len(part) for part in (self.studies, self.series, self.images, self.entries,
+                                       self.steps)]
 
 
-def read(octets, syntax, over, unreadable):
+def read(octets: bytes, syntax: bytes, over: int, unreadable: int) -> list[Element]:
     if octets is None:
         raise Refused(over)
     try:
@@ -49,24 +55,25 @@ def read(octets, syntax, over, unreadable):
         raise Refused(unreadable) from None
 
 
-def written(data_set, syntax):
+def written(data_set: list[Element], syntax: bytes) -> bytes:
     return data_sets.canonical(data_set, form_of(syntax))
 
 
-def is_uid(octets):
+def is_uid(octets: bytes) -> bool:
     return re.fullmatch(rb"[0-9.]{1,64}", octets) is not None
 
 
-def only_uid(data_set, tag):
+def only_uid(data_set: list[Element], tag: tuple[int, int]) -> bytes | None:
     found = only_value(element_of(data_set, tag))
     return found if found is not None and is_uid(found) else None
 
 
-def store(records, command, octets, syntax):
+def store(records: Records, command: Command, octets: bytes, syntax: bytes) -> int:
     """C-STORE (PS3.4 annex B): the status; what is new is kept."""
     try:
         sent = read(octets, syntax, OUT_OF_RESOURCES, NOT_UNDERSTOOD)
-        if len(written([element for element in sent if is_kept(element)], EXPLICIT)) > data_sets.LONGEST_KEPT:
+        if len(written([element for element in sent if is_kept(element)],
+                       EXPLICIT)) > data_sets.LONGEST_KEPT:
             raise Refused(OUT_OF_RESOURCES)
         uids = [only_uid(sent, tag) for tag in (SOP_CLASS, SOP_INSTANCE, STUDY, SERIES)]
         if None in uids or uids[0] != command.sop_class or uids[1] != command.sop_instance:
@@ -87,34 +94,36 @@ def store(records, command, octets, syntax):
     for place, key, above, level in parts:
         place.setdefault(key, (above, attributes_at(level, sent)))
     kept = [place[key][1] for place, key, _, _ in parts]
-    return SUCCESS if all(is_kept(element) and any(element in one for one in kept) for element in sent) else B006
+    return SUCCESS if all(is_kept(element) and any(element in one for one in kept)
+                          for element in sent) else B006
 
 
-def is_kept(element):
-    return element[0] == matching.CHARACTER_SET or any(element[0] in tags for tags in matching.KEPT.values())
+def is_kept(element: Element) -> bool:
+    return element[0] == matching.CHARACTER_SET or any(element[0] in tags
+                                                       for tags in matching.KEPT.values())
 
 
-def attributes_at(level, data_set):
+def attributes_at(level: str, data_set: list[Element]) -> list[Element]:
     """The attributes of a data set that are kept at a level."""
     return [e for e in data_set if e[0] in matching.KEPT[level] or e[0] == matching.CHARACTER_SET]
 
 
-def with_element(data_set, element):
+def with_element(data_set: list[Element], element: Element) -> list[Element]:
     return sorted([one for one in data_set if one[0] != element[0]] + [element])
 
 
-def with_texts(data_set, *texts):
+def with_texts(data_set: list[Element], *texts: Element) -> list[Element]:
     """A data set with these elements, whose values are padded."""
     for tag, vr, text in texts:
         data_set = with_element(data_set, (tag, vr, data_sets.padded(vr, text)))
     return data_set
 
 
-def counted(tag, found):
+def counted(tag: tuple[int, int], found: list[bytes]) -> Element:
     return tag, "IS", str(len(found)).encode()
 
 
-def completed(records, level, key, data_set):
+def completed(records: Records, level: str, key: bytes, data_set: list[Element]) -> list[Element]:
     """A record with its computed keys (PS3.4 section C.6.2.1)."""
     if level == "SERIES":
         images = [one for one, (above, _) in records.images.items() if above == key]
@@ -128,13 +137,13 @@ def completed(records, level, key, data_set):
                       counted((0x0020, 0x1206), series), counted((0x0020, 0x1208), images))
 
 
-def modalities_of(data_set):
+def modalities_of(data_set: list[Element]) -> list[bytes]:
     element = element_of(data_set, MODALITY)
     found = [] if element is None else values(element[1], element[2])
     return [value for value in found if 1 <= len(value) <= 16]
 
 
-def level_of(identifier):
+def level_of(identifier: list[Element]) -> str:
     element = element_of(identifier, LEVEL)
     level = b"" if element is None else trimmed("CS", element[2])
     if level not in (b"STUDY", b"SERIES", b"IMAGE"):
@@ -142,13 +151,15 @@ def level_of(identifier):
     return level.decode()
 
 
-def find(records, called, octets, syntax):
-    """Study Root C-FIND (PS3.4 section C.4.1): the pending status, the answers, and the last status."""
+def find(records: Records, called: bytes, octets: bytes,
+         syntax: bytes) -> tuple[int, list[list[Element]], int]:
+    """Study Root C-FIND (PS3.4 section C.4.1): the pending status, the answers, and the last
+    status."""
     try:
         identifier = read(octets, syntax, OUT_OF_RESOURCES, NOT_UNDERSTOOD)
         level = level_of(identifier)
-        above = {"STUDY": [], "SERIES": [STUDY], "IMAGE": [STUDY, SERIES]}[level]
-        unique = [only_uid(identifier, tag) for tag in above]
+        above: dict[str, list[Tag]] = {"STUDY": [], "SERIES": [STUDY], "IMAGE": [STUDY, SERIES]}
+        unique = [only_uid(identifier, tag) for tag in above[level]]
         if None in unique:
             raise Refused(MISMATCH)
         keys, struck = matching.strike(identifier, matching.KEYS[level], matching.APART)
@@ -165,12 +176,13 @@ def find(records, called, octets, syntax):
     return PENDING_OPTIONAL if struck else PENDING, answers, SUCCESS
 
 
-def found_answer(answer, level, called):
-    return with_texts(answer, (LEVEL, "CS", level.encode()), ((0x0008, 0x0054), "AE", called.strip(b" ")),
+def found_answer(answer: list[Element], level: str, called: bytes) -> list[Element]:
+    return with_texts(answer, (LEVEL, "CS", level.encode()),
+                      ((0x0008, 0x0054), "AE", called.strip(b" ")),
                       ((0x0008, 0x0056), "CS", b"UNAVAILABLE"))
 
 
-def query(records, octets, syntax):
+def query(records: Records, octets: bytes, syntax: bytes) -> tuple[int, list[list[Element]], int]:
     """Modality Worklist C-FIND (PS3.4 section K.6.1)."""
     try:
         identifier = read(octets, syntax, OUT_OF_RESOURCES, NOT_UNDERSTOOD)
@@ -184,19 +196,23 @@ def query(records, octets, syntax):
     return PENDING_OPTIONAL if struck else PENDING, answers, SUCCESS
 
 
-def has_value(element):
-    return element is not None and bool(element[2] if element[1] == "SQ" else values(element[1], element[2]))
+def has_value(element: Element) -> bool:
+    return element is not None and bool(element[2] if element[1] == "SQ"
+                                        else values(element[1], element[2]))
 
 
-def entry_key(data_set):
-    """The key of a complete entry, the id of its only step; None where the entry is not complete."""
+def entry_key(data_set: list[Element]) -> bytes | None:
+    """The key of a complete entry, the id of its only step; None where the entry is not
+    complete."""
     steps = element_of(data_set, SCHEDULED_STEP)
     if steps is None or len(steps[2]) != 1:
         return None
     step = steps[2][0]
     identity = only_value(element_of(step, STEP_ID))
-    date, time = (only_value(element_of(step, tag)) for tag in (matching.START_DATE, matching.START_TIME))
-    complete = (all(has_value(element_of(data_set, tag)) for tag in ((0x0010, 0x0010), (0x0010, 0x0020), (0x0040, 0x1001)))
+    date, time = (only_value(element_of(step, tag))
+                  for tag in (matching.START_DATE, matching.START_TIME))
+    complete = (all(has_value(element_of(data_set, tag))
+                    for tag in ((0x0010, 0x0010), (0x0010, 0x0020), (0x0040, 0x1001)))
                 and only_uid(data_set, STUDY) is not None
                 and all(has_value(element_of(step, tag)) for tag in (MODALITY, (0x0040, 0x0001)))
                 and date is not None and matching.day_of(date) is not None
@@ -205,7 +221,7 @@ def entry_key(data_set):
     return identity if complete else None
 
 
-def schedule(records, octets):
+def schedule(records: Records, octets: bytes) -> int | None:
     """Keeps an entry; the number of the refusal, or None."""
     try:
         data_set = read(octets if len(octets) <= LONGEST_ENTRY else None, EXPLICIT, 1, 1)
@@ -222,19 +238,21 @@ def schedule(records, octets):
     return None
 
 
-def withdraw(records, key):
+def withdraw(records: Records, key: bytes) -> int | None:
     return None if records.entries.pop(key, None) is not None else 5
 
 
-def ids_named(step):
-    """The ids of the scheduled steps that a performed one names, each the only value of its item (PS3.4 table F.7.2-1)."""
+def ids_named(step: list[Element]) -> set[bytes]:
+    """The ids of the scheduled steps that a performed one names, each the only value of its item
+    (PS3.4 table F.7.2-1)."""
     element = element_of(step, STEP_ATTRIBUTES)
     items = element[2] if element is not None and element[1] == "SQ" else []
     return {only_value(element_of(item, STEP_ID)) for item in items} - {None}
 
 
-def create(records, command, octets, syntax):
-    """N-CREATE of a performed procedure step (PS3.4 section F.7.2.1), which starts the entries that it names."""
+def create(records: Records, command: Command, octets: bytes, syntax: bytes) -> int:
+    """N-CREATE of a performed procedure step (PS3.4 section F.7.2.1), which starts the entries that
+    it names."""
     try:
         step = read(octets, syntax, 0x0213, 0x0110)
     except Refused as refused:
@@ -258,7 +276,7 @@ def create(records, command, octets, syntax):
     return SUCCESS
 
 
-def change(records, command, octets, syntax):
+def change(records: Records, command: Command, octets: bytes, syntax: bytes) -> int:
     """N-SET of a performed procedure step (PS3.4 section F.7.2.2)."""
     try:
         sent = read(octets, syntax, 0x0213, 0x0110)
@@ -273,7 +291,8 @@ def change(records, command, octets, syntax):
     if any(element != element_of(kept, element[0]) for element in fixed):
         return 0x0106
     state = element_of(sent, STATE)
-    if state is not None and only_value(state) not in (b"IN PROGRESS", b"COMPLETED", b"DISCONTINUED"):
+    if state is not None and only_value(state) not in (b"IN PROGRESS", b"COMPLETED",
+                                                       b"DISCONTINUED"):
         return 0x0106
     merged = kept
     for element in sent:

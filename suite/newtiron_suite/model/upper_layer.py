@@ -1,5 +1,7 @@
-"""Protocol data units and presentation contexts, read and written (PS3.8 section 9.3 and annex D, PS3.7 annex D.3)."""
+"""Protocol data units and presentation contexts, read and written (PS3.8 section 9.3 and annex D,
+PS3.7 annex D.3)."""
 from dataclasses import dataclass, field
+from typing import Any
 
 APPLICATION_CONTEXT = b"1.2.840.10008.3.1.1.1"
 IMPLICIT = b"1.2.840.10008.1.2"
@@ -14,16 +16,16 @@ UNRECOGNIZED, UNEXPECTED, INVALID = 1, 2, 6
 class BadPdu(Exception):
     """What breaks the protocol, with the reason of the abort that answers it."""
 
-    def __init__(self, reason):
+    def __init__(self, reason: int) -> None:
         super().__init__(reason)
         self.reason = reason
 
 
-def big(octets):
+def big(octets: bytes) -> int:
     return int.from_bytes(octets, "big")
 
 
-def items(body):
+def items(body: bytes) -> list[tuple[int, bytes]]:
     """Items, or sub-items, that fill a body (PS3.8 section 9.3.2)."""
     found, at = [], 0
     while at < len(body):
@@ -37,14 +39,14 @@ def items(body):
     return found
 
 
-def at_most_one(found, kind):
+def at_most_one(found: list[tuple[int, bytes]], kind: int) -> bytes | None:
     bodies = [body for item, body in found if item == kind]
     if len(bodies) > 1:
         raise BadPdu(INVALID)
     return bodies[0] if bodies else None
 
 
-def uid(octets):
+def uid(octets: bytes) -> bytes:
     return octets.rstrip(b"\x00 ")
 
 
@@ -59,7 +61,7 @@ class Request:
     contexts: list = field(default_factory=list)
 
 
-def maximum_of(found):
+def maximum_of(found: list[tuple[int, bytes]]) -> int | None:
     user = at_most_one(found, 0x50)
     maximum = None if user is None else at_most_one(items(user), 0x51)
     if maximum is not None and len(maximum) != 4:
@@ -67,13 +69,13 @@ def maximum_of(found):
     return None if maximum is None else big(maximum)
 
 
-def context_of(part, known):
+def context_of(part: bytes, known: list[int]) -> tuple[int, list[tuple[int, bytes]]]:
     if len(part) < 4 or part[0] % 2 == 0 or part[0] in known:
         raise BadPdu(INVALID)
     return part[0], items(part[4:])
 
 
-def read_associate(kind, body):
+def read_associate(kind: int, body: bytes) -> Request:
     """A-ASSOCIATE-RQ or -AC (PS3.8 sections 9.3.2 and 9.3.3)."""
     if len(body) < 68:
         raise BadPdu(INVALID)
@@ -87,14 +89,15 @@ def read_associate(kind, body):
         number, inner = context_of(part, [known for known, _, _ in contexts])
         abstract = [uid(octets) for kind_of, octets in inner if kind_of == 0x30]
         transfer = [uid(octets) for kind_of, octets in inner if kind_of == 0x40]
-        if kind == REQUEST and (len(abstract) != 1 or not transfer) or kind == ACCEPT and len(transfer) != 1:
+        if kind == REQUEST and (len(abstract) != 1
+                                or not transfer) or kind == ACCEPT and len(transfer) != 1:
             raise BadPdu(INVALID)
         contexts.append((number, abstract[0] if kind == REQUEST else None, transfer))
     return Request(big(body[0:2]), body[4:20], body[20:36], body[4:68],
                    None if application is None else uid(application), maximum, contexts)
 
 
-def read_pdvs(body):
+def read_pdvs(body: bytes) -> list[tuple[int, int, bytes]]:
     """Presentation data values that fill a P-DATA-TF (PS3.8 section 9.3.5)."""
     found, at = [], 0
     while at < len(body):
@@ -110,7 +113,7 @@ def read_pdvs(body):
     return found
 
 
-def next_pdu(octets):
+def next_pdu(octets: bytes) -> tuple[int, Any, bytes] | None:
     """The type and body of the first PDU, and what follows; None while it is not whole."""
     if len(octets) < 6:
         return None
@@ -121,7 +124,7 @@ def next_pdu(octets):
         raise BadPdu(INVALID)
     if len(octets) < 6 + length:
         return None
-    body = octets[6:6 + length]
+    body: Any = octets[6:6 + length]
     if kind in (REQUEST, ACCEPT):
         body = read_associate(kind, body)
     elif kind == P_DATA:
@@ -131,27 +134,29 @@ def next_pdu(octets):
     return kind, body, octets[6 + length:]
 
 
-def pdu(kind, body):
+def pdu(kind: int, body: bytes) -> bytes:
     return bytes([kind, 0]) + len(body).to_bytes(4, "big") + body
 
 
-def item(kind, body):
+def item(kind: int, body: bytes) -> bytes:
     return bytes([kind, 0]) + len(body).to_bytes(2, "big") + body
 
 
-def reject(result, source, reason):
+def reject(result: int, source: int, reason: int) -> bytes:
     return pdu(REJECT, bytes([0, result, source, reason]))
 
 
-def abort(source, reason):
+def abort(source: int, reason: int) -> bytes:
     return pdu(ABORT, bytes([0, 0, source, reason]))
 
 
-def release_reply():
+def release_reply() -> bytes:
     return pdu(RELEASE_RP, bytes(4))
 
 
-def request_pdu(called, calling, contexts, maximum=16384, version=1, application=APPLICATION_CONTEXT):
+def request_pdu(called: bytes, calling: bytes, contexts: list[tuple[int, bytes, list[bytes]]],
+                maximum: int | None = 16384, version: int = 1,
+                application: bytes = APPLICATION_CONTEXT) -> bytes:
     """A-ASSOCIATE-RQ of an implementation of our own, for captures that are composed."""
     parts = item(0x10, application)
     for number, abstract, transfer in contexts:
@@ -159,19 +164,21 @@ def request_pdu(called, calling, contexts, maximum=16384, version=1, application
         parts += item(0x20, bytes([number, 0, 0, 0]) + inner)
     user = b"" if maximum is None else item(0x51, maximum.to_bytes(4, "big"))
     parts += item(0x50, user + item(0x52, b"1.2.3"))
-    return pdu(REQUEST, version.to_bytes(2, "big") + b"\x00\x00" + called.ljust(16) + calling.ljust(16) + bytes(32) + parts)
+    return pdu(REQUEST, version.to_bytes(2, "big") + b"\x00\x00" + called.ljust(16)
+               + calling.ljust(16) + bytes(32) + parts)
 
 
-def acceptance(request, answered):
+def acceptance(request: Request, answered: list[tuple[int, int, bytes]]) -> bytes:
     parts = item(0x10, APPLICATION_CONTEXT)
     for number, result, syntax in answered:
         parts += item(0x21, bytes([number, 0, result, 0]) + item(0x40, syntax))
-    parts += item(0x50, item(0x51, LONGEST_PDU.to_bytes(4, "big")) + item(0x52, IMPLEMENTATION_CLASS)
+    parts += item(0x50, item(0x51, LONGEST_PDU.to_bytes(4, "big"))
+                  + item(0x52, IMPLEMENTATION_CLASS)
                   + item(0x55, IMPLEMENTATION_VERSION))
     return pdu(ACCEPT, b"\x00\x01\x00\x00" + request.titles + parts)
 
 
-def fragments(context, is_command, octets, maximum):
+def fragments(context: int, is_command: bool, octets: bytes, maximum: int | None) -> bytes:
     """One PDV a PDU, each as long as the peer takes (PS3.8 annex D.1 and annex E)."""
     longest = min(maximum or 16384, 16384) - 6
     longest -= longest % 2
@@ -179,5 +186,6 @@ def fragments(context, is_command, octets, maximum):
     for at in range(0, max(len(octets), 1), longest):
         part = octets[at:at + longest]
         control = (1 if is_command else 0) | (2 if at + longest >= len(octets) else 0)
-        out.append(pdu(P_DATA, (len(part) + 2).to_bytes(4, "big") + bytes([context, control]) + part))
+        out.append(pdu(P_DATA, (len(part) + 2).to_bytes(4, "big") + bytes([context, control])
+                       + part))
     return b"".join(out)

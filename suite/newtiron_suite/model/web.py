@@ -1,13 +1,18 @@
-"""What the web front answers, worked out from RFC 9110, RFC 6750, PS3.18 section 10.6 and annex F, over the records of the models: for
-the suite of the web front. It cuts no requests off octets: it takes the parts of one.
+"""What the web front answers, worked out from RFC 9110, RFC 6750, PS3.18 section 10.6 and annex F,
+over the records of the models: for the suite of the web front. It cuts no requests off octets: it
+takes the parts of one.
 """
 import dataclasses
 import json
 import re
 import urllib.parse
+from typing import Any
 
 from . import data_sets, json_objects, services
+from .data_sets import Element
 from .dictionary import DICTIONARY
+from .replies import Institution
+from .services import Records
 from .upper_layer import EXPLICIT
 
 # The levels of a Study Root search (PS3.4 section C.6.2), and how many answers a page has.
@@ -20,15 +25,18 @@ UID = r"([^/]+)"
 # Each path below an institution, with its methods and what it asks for.
 PATHS = [
     ("rs/studies", {"GET": "studies"}), (f"rs/studies/{UID}/series", {"GET": "series"}),
-    (f"rs/studies/{UID}/series/{UID}/instances", {"GET": "images"}), ("rs/(?:series|instances)", {"GET": "relational"}),
-    ("worklist", {"GET": "worklist", "POST": "schedule"}), ("worklist/(.*)", {"DELETE": "withdraw"}),
+    (f"rs/studies/{UID}/series/{UID}/instances", {"GET": "images"}),
+    ("rs/(?:series|instances)", {"GET": "relational"}),
+    ("worklist", {"GET": "worklist", "POST": "schedule"}),
+    ("worklist/(.*)", {"DELETE": "withdraw"}),
     ("steps", {"GET": "steps"}), ("counts", {"GET": "counts"}),
 ]
 # What belongs to nobody, and what is the operator's.
 OPEN = {"/": "text/html", "/page.css": "text/css", "/page.js": "text/javascript", "/health": TEXT}
 OPERATORS = {"/metrics": "GET", "/backup": "POST"}
 # What a response says where fuzzy matching was asked for (PS3.18 section 8.3.4.2).
-LITERAL = '299 newtiron "The fuzzymatching parameter is not supported. Only literal matching has been performed."'
+LITERAL = ('299 newtiron "The fuzzymatching parameter is not supported. Only literal matching has '
+           'been performed."')
 # The statuses of the refusals of orders.
 REFUSED_ORDERS = {1: 400, 2: 400, 3: 409, 4: 507, 5: 404, 6: 404}
 
@@ -45,12 +53,14 @@ class Answer:
     fields: dict = dataclasses.field(default_factory=dict)
 
 
-def refused(status, code, **fields):
-    return Answer(status, JSON, json.dumps({"refused": str(code)}, separators=(",", ":")).encode(), fields)
+def refused(status: int, code: int | str, **fields: str) -> Answer:
+    return Answer(status, JSON, json.dumps({"refused": str(code)}, separators=(",", ":")).encode(),
+                  fields)
 
 
-def value_of(vr, text):
-    """The octets of a value; a value of other than text, UIDs and unsigned shorts cannot be given."""
+def value_of(vr: str, text: str) -> bytes | None:
+    """The octets of a value; a value of other than text, UIDs and unsigned shorts cannot be
+    given."""
     octets = urllib.parse.unquote_to_bytes(text)
     if vr == "US" and text:
         if not re.fullmatch(r"\+?[0-9]+", text) or int(text) > 65535:
@@ -61,7 +71,7 @@ def value_of(vr, text):
     return data_sets.padded(vr, octets)
 
 
-def words_of(text):
+def words_of(text: str) -> tuple[dict[tuple[int, int], bytes], dict[str, int]]:
     """The values of attributes that the parts of a query give, the limit and the offset."""
     keys, page = {}, {"limit": USUAL_PAGE, "offset": 0}
     for part in filter(None, text.split("&")):
@@ -71,8 +81,8 @@ def words_of(text):
         if name in page and re.fullmatch(r"\+?[0-9]+", value) and int(value) < 2 ** 64:
             page[name] = int(value)
             continue
-        tag = json_objects.tag_text(name.encode())
-        tag = None if tag == "-" else tuple(map(int, tag.split()))
+        numbers = json_objects.tag_text(name.encode())
+        tag: Any = None if numbers == "-" else tuple(map(int, numbers.split()))
         octets = value_of(DICTIONARY[tag], value) if equals and tag in DICTIONARY else None
         if octets is None:
             raise BadWord(part)
@@ -80,16 +90,19 @@ def words_of(text):
     return keys, page
 
 
-def identifier(keys, level, has_step=False):
+def identifier(keys: dict[tuple[int, int], bytes], level: bytes,
+               has_step: bool = False) -> list[Element]:
     """An identifier of all attributes of the dictionary, with these values."""
-    found = [(tag, vr, [] if vr == "SQ" else keys.get(tag, b"")) for tag, vr in sorted(DICTIONARY.items())
+    found = [(tag, vr, [] if vr == "SQ" else keys.get(tag, b"")) for tag,
+             vr in sorted(DICTIONARY.items())
              if tag[1] != 0 and tag[0] != 0xFFFE and tag not in (CHARACTER_SET, LEVEL)]
     if has_step:
         found = services.with_element(found, (STEPS, "SQ", [identifier(keys, b"")]))
     return services.with_element(found, (LEVEL, "CS", data_sets.padded("CS", level)))
 
 
-def searched(records, subject, text, above):
+def searched(records: Records, subject: str, text: str,
+             above: dict[tuple[int, int], bytes]) -> tuple[list[list[Element]], int]:
     """The data sets of a page, and the status of the search."""
     keys, page = words_of(text)
     keys |= above
@@ -101,17 +114,19 @@ def searched(records, subject, text, above):
             raise BadWord(" ".join(words if has_limit else [*words, f"limit={USUAL_PAGE}"]))
         found, status = [step for _, step in sorted(records.steps.items())], 0
     else:
-        asked = services.written(identifier(keys, LEVELS.get(subject, b""), subject == "worklist"), EXPLICIT)
+        asked = services.written(identifier(keys, LEVELS.get(subject, b""), subject == "worklist"),
+                                 EXPLICIT)
         _, found, status = services.query(records, asked, EXPLICIT) if subject == "worklist" else \
             services.find(records, b"", asked, EXPLICIT)
     return found[page["offset"]:][:min(page["limit"], LONGEST_PAGE)], status
 
 
-def json_of(data_set):
+def json_of(data_set: list[Element]) -> str:
     return json.dumps(json_objects.objects(data_set), ensure_ascii=False, separators=(",", ":"))
 
 
-def answered(records, subject, text, above):
+def answered(records: Records, subject: str, text: str,
+             above: dict[tuple[int, int], bytes]) -> Answer:
     """The answer to a search."""
     try:
         found, status = searched(records, subject, text, above)
@@ -119,35 +134,39 @@ def answered(records, subject, text, above):
         return refused(400, f"keyword {bad.args[0]}")
     if status:
         return refused(413 if status == services.OUT_OF_RESOURCES else 400, f"{status:04X}")
-    return Answer(200, DICOM_JSON, f"[{','.join(map(json_of, found))}]".encode()) if found else Answer(204)
+    return Answer(200, DICOM_JSON,
+                  f"[{','.join(map(json_of, found))}]".encode()) if found else Answer(204)
 
 
-def counted(institution):
+def counted(institution: Institution) -> dict[str, dict[str, int]]:
     """How much an institution keeps, with its limits; series have none."""
     kinds = ("studies", "series", "images", "entries", "steps")
-    return {kind: {"kept": count, **({"limit": institution.limits[kind]} if kind in institution.limits else {})}
+    return {kind: {"kept": count,
+                   **({"limit": institution.limits[kind]} if kind in institution.limits else {})}
             for kind, count in zip(kinds, institution.records.counts())}
 
 
-def host_and_path(target, host):
-    """The host and the path of a target, which in absolute-form has the host itself (RFC 9112 section 3.2.2)."""
+def host_and_path(target: str, host: str | None) -> Any:
+    """The host and the path of a target, which in absolute-form has the host itself (RFC 9112
+    section 3.2.2)."""
     found = re.fullmatch(r"https?://([^/]*)(/.*)", target, re.S)
     return found.groups() if found else (host, target)
 
 
-def is_plain(path):
+def is_plain(path: str) -> bool:
     """Whether no segment of a path goes up, or has a slash once it is decoded."""
     segments = map(urllib.parse.unquote_to_bytes, path.split("/"))
     return not any(segment in (b".", b"..") or b"/" in segment for segment in segments)
 
 
-def looking(method):
+def looking(method: str) -> str:
     """A method, in which HEAD is GET."""
     return "GET" if method == "HEAD" else method
 
 
-def place_of(path):
-    """Whose key opens a path, the words of a path below an institution, and its methods; none where nothing is."""
+def place_of(path: str) -> Any:
+    """Whose key opens a path, the words of a path below an institution, and its methods; none where
+    nothing is."""
     if path in OPEN:
         return "", (), {"GET": path}
     if path in OPERATORS:
@@ -159,27 +178,33 @@ def place_of(path):
     return (name, match.groups(), methods) if match and name != "*" else ("", (), {})
 
 
-def ranges_in(fields):
+def ranges_in(fields: Any) -> Any:
     """The media types and their ranges that an Accept names."""
-    return {word.lower() for word in re.split(r"[,; \t]", fields.get("accept", ""))} if "accept" in fields else set()
+    return {word.lower() for word in re.split(r"[,; \t]",
+                                              fields.get("accept",
+                                                         ""))} if "accept" in fields else set()
 
 
-def key_in(fields):
+def key_in(fields: Any) -> Any:
     """The key that an Authorization tells (RFC 9110 section 11.4, RFC 6750 section 2.1)."""
     given = re.fullmatch(r"bearer +(\S+)", fields.get("authorization", ""), re.I)
     return given[1] if given else None
 
 
 class Front:
-    """The front over the institutions of a model, with a key for each name, and `*` for the operator."""
+    """The front over the institutions of a model, with a key for each name, and `*` for the
+    operator."""
 
-    def __init__(self, institutions, keys, host=None):
+    def __init__(self, institutions: list[Institution], keys: dict[str, str],
+                 host: str | None = None) -> None:
         self.institutions, self.keys = {one.name: one for one in institutions}, keys
         self.hosts = {"127.0.0.1", "localhost", "[::1]"} | ({host} if host else set())
 
-    def answer(self, method, target, fields, body=b"", is_old=False):
-        """The answer to a request, of HTTP/1.0 if that is said, whose fields have their names in lower case; that to HEAD is that to
-        GET. Of what is the server's own, as the page, the metrics and a backup, it has the status and the kind alone."""
+    def answer(self, method: str, target: str, fields: dict[str, str], body: bytes = b"",
+               is_old: bool = False) -> Answer:
+        """The answer to a request, of HTTP/1.0 if that is said, whose fields have their names in
+        lower case; that to HEAD is that to GET. Of what is the server's own, as the page, the
+        metrics and a backup, it has the status and the kind alone."""
         why = self.judged(method, target, fields, is_old)
         if why:
             return why
@@ -192,7 +217,7 @@ class Front:
             return refused(404, 6)
         return self.perform(institution, methods[looking(method)], words, query, fields, body)
 
-    def judged(self, method, target, fields, is_old=False):
+    def judged(self, method: str, target: Any, fields: Any, is_old: bool = False) -> Any:
         """The refusal of a request by its head; None where its body is read."""
         host, target = host_and_path(target, fields.get("host"))
         path = target.partition("?")[0]
@@ -205,11 +230,15 @@ class Front:
         if not methods:
             return refused(404, "path")
         if looking(method) not in methods:
-            return refused(405, "method", Allow=", ".join("GET, HEAD" if one == "GET" else one for one in methods))
-        return None if path in OPEN or self.is_opened(name, fields) else refused(401, "key", **{"WWW-Authenticate": "Bearer"})
+            return refused(405, "method",
+                           Allow=", ".join("GET, HEAD" if one == "GET" else one for one in methods))
+        return None if path in OPEN or self.is_opened(name, fields) else refused(401, "key",
+                                                                                 **{
+            "WWW-Authenticate": "Bearer"})
 
-    def not_admitted(self, host, path, fields):
-        """The refusal of another host, or of a page of another origin; the page itself may be opened from anywhere."""
+    def not_admitted(self, host: str | None, path: str, fields: Any) -> Any:
+        """The refusal of another host, or of a page of another origin; the page itself may be
+        opened from anywhere."""
         host = (host or "").lower()
         if re.sub(r":[0-9]*$", "", host) not in self.hosts:
             return refused(421, "host")
@@ -217,19 +246,22 @@ class Front:
         is_opening = path == "/" and fields.get("sec-fetch-dest") == "document"
         if origin is not None and origin.lower() not in (f"http://{host}", f"https://{host}"):
             return refused(403, "origin")
-        return None if site in (None, "same-origin", "none") or is_opening else refused(403, "origin")
+        return None if site in (None, "same-origin",
+                                "none") or is_opening else refused(403, "origin")
 
-    def is_opened(self, name, fields):
+    def is_opened(self, name: str, fields: dict[str, str]) -> bool:
         given = key_in(fields)
         return given is not None and self.keys.get(name) == given
 
     @staticmethod
-    def perform(institution, subject, words, query, fields, body):
+    def perform(institution: Institution, subject: str, words: tuple[str, ...], query: str,
+                fields: Any, body: bytes) -> Answer:
         records = institution.records
         if subject == "relational":
             return refused(501, "unsupported")
         if subject == "counts":
-            return Answer(200, JSON, json.dumps(counted(institution), separators=(",", ":")).encode())
+            return Answer(200, JSON,
+                          json.dumps(counted(institution), separators=(",", ":")).encode())
         if subject in ("schedule", "withdraw"):
             number = services.schedule(records, body) if subject == "schedule" else \
                 services.withdraw(records, urllib.parse.unquote_to_bytes(words[0]))
@@ -240,7 +272,9 @@ class Front:
         if ranges and not ranges & {DICOM_JSON, JSON, "application/*", "*/*"}:
             return refused(406, "accept")
         uids = zip((services.STUDY, services.SERIES), words)
-        answer = answered(records, subject, query, {tag: data_sets.padded("UI", uid.encode()) for tag, uid in uids})
+        answer = answered(records, subject, query,
+                          {tag: data_sets.padded("UI", uid.encode()) for tag, uid in uids})
         if answer.status in (200, 204) and "fuzzymatching=true" in query.split("&"):
             answer.fields["Warning"] = LITERAL
-        return Answer(200, DICOM_JSON, b"[]", answer.fields) if answer.status == 204 and DICOM_JSON in ranges else answer
+        return Answer(200, DICOM_JSON, b"[]",
+                      answer.fields) if answer.status == 204 and DICOM_JSON in ranges else answer

@@ -1,44 +1,54 @@
 """The built program over real sockets of 127.0.0.1: `serve` and `loopback`.
 
-    captures    each capture and scene, played over sockets line by line, is answered octet for octet as is kept; one with pulls,
-                which the server makes by itself here, as the model answers it
-    pages       searches of thousands of studies: others are served between pages, a C-CANCEL ends them, one that is never read is
-                kept within memory
-    histories   two hospitals and strangers at the same time, at random: what each is answered is what `replay` answers its own
-                events alone
+    captures    each capture and scene, played over sockets line by line, is answered octet for
+                octet as is kept; one with pulls, which the server makes by itself here, as the
+                model answers it
+    pages       searches of thousands of studies: others are served between pages, a C-CANCEL ends
+                them, one that is never read is kept within memory
+    histories   two hospitals and strangers at the same time, at random: what each is answered is
+                what `replay` answers its own events alone
     many        64 connections are served; a 65th waits, and is served when one of them closes
-    shares      searches that come at once on many connections of one hospital: another's echo waits for few, and each is answered
-    deaf        a client that reads nothing takes neither time nor memory from others, and is then answered whole
+    shares      searches that come at once on many connections of one hospital: another's echo waits
+                for few, and each is answered
+    deaf        a client that reads nothing takes neither time nor memory from others, and is then
+                answered whole
     resets      connections that are reset in every state leave nothing behind
     half        a stream that ends at each of its octets is answered as far as it goes
-    long        C-STOREs whose data sets are made as they are sent: one of 256 MiB, one of which too much would be kept
+    long        C-STOREs whose data sets are made as they are sent: one of 256 MiB, one of which too
+                much would be kept
     stops       ended by SIGTERM or SIGKILL under load, over a store: all that was answered is there
-    repeats     what is sent again after SIGTERM: which answers are as the first time, and which are others
+    repeats     what is sent again after SIGTERM: which answers are as the first time, and which are
+                others
     idle        64 silent connections, or none, take less than 1 % of a processor
-    exits       the exit statuses, what is told of them, and the order of the checks; `--turns`; accepts that fail
+    exits       the exit statuses, what is told of them, and the order of the checks; `--turns`;
+                accepts that fail
     listen      other addresses, all of them, and those of IPv6
     loopback    each capture and scene: for each connection the octets that it was sent
     console     orders while associations are open, lines that are none, the longest ones, reports
-    backup      the console's copies of a store: row by row as the store that was stopped then, under load, those that are refused, that
-                the disk refuses at each call, and that SIGKILL ends at random
-    searches    what the console shows of two hospitals with the same UIDs: studies, series, images, entries and steps, page by page, and
-                its refusals
+    backup      the console's copies of a store: row by row as the store that was stopped then,
+                under load, those that are refused, that the disk refuses at each call, and that
+                SIGKILL ends at random
+    searches    what the console shows of two hospitals with the same UIDs: studies, series, images,
+                entries and steps, page by page, and its refusals
     file        the console's socket file: its rights, one that was left behind, one that is in use
-    callers     the ninth caller of the console waits, and one who says nothing for a minute is let go (65 s)
+    callers     the ninth caller of the console waits, and one who says nothing for a minute is let
+                go (65 s)
     browser     a POST, by curl and by Chromium where they are installed, changes nothing
-    artim       connections that ask for no association in time are given up, and a modality gets their place
+    artim       connections that ask for no association in time are given up, and a modality gets
+                their place
     peers       how many connections one address may have
     quiet       silent connections are given up, others are not
     log         the lines of each association, and nothing of its data sets
     tools       the clients of DCMTK, where they are installed
 
-Tools that are not installed are named and skipped, and so is IPv6 where the machine has none. It ends with 'N passed, M
-failed'. Use: suite/sockets [PROGRAM [PART[=NAME,NAME..]..]]: all parts, or some, or of the captures of a part those with
-these names; stops=N is N rounds, long=N,N.. data sets of N octets, artim=N a time of N seconds.
+Tools that are not installed are named and skipped, and so is IPv6 where the machine has none. It
+ends with 'N passed, M failed'. Use: suite/sockets [PROGRAM [PART[=NAME,NAME..]..]]: all parts, or
+some, or of the captures of a part those with these names; stops=N is N rounds, long=N,N.. data sets
+of N octets, artim=N a time of N seconds.
 """
 import sys
 
-from ..tally import play_parts
+from ..tally import Part, play_parts
 from .backup import backup
 from .captures import captures, loopback, two_hospitals
 from .common import WANTED
@@ -50,11 +60,13 @@ from .log import log
 from .stops import repeats, stops
 from .tools import tools
 
-PARTS = {"captures": captures, "histories": two_hospitals, "pages": pages, "many": many, "shares": shares, "deaf": deaf,
-         "resets": resets, "half": half, "long": long, "stops": stops, "repeats": repeats, "idle": idle, "exits": exits,
-         "listen": listen, "loopback": loopback, "console": console, "backup": backup,
-         "searches": searches, "file": file, "callers": callers,
-         "browser": browser, "artim": artim, "peers": peers, "quiet": quiet, "log": log, "tools": tools}
+PARTS: dict[str, Part] = {
+    "captures": captures, "histories": two_hospitals, "pages": pages, "many": many,
+    "shares": shares, "deaf": deaf, "resets": resets, "half": half, "long": long, "stops": stops,
+    "repeats": repeats, "idle": idle, "exits": exits, "listen": listen, "loopback": loopback,
+    "console": console, "backup": backup, "searches": searches, "file": file, "callers": callers,
+    "browser": browser, "artim": artim, "peers": peers, "quiet": quiet, "log": log, "tools": tools,
+}
 
 
 def choose(choice: str) -> None:

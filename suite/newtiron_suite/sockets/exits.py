@@ -1,30 +1,42 @@
 """Exit statuses, and addresses that are listened at."""
 import errno
+import pathlib
 import subprocess
 import time
+from typing import Any
 
 from ..client import HOST, Client, Serving, free_port, until
 from ..model.upper_layer import ACCEPT
 from ..refusing import made_library
 from ..scenes import SERVED, octets_of
-from ..tally import skip
+from ..tally import Tally, skip
 from .common import PROGRAM, has_ended, refused_accepts, run, serves
 
 
-def exits(tally, folder):
+def exits(tally: Tally, folder: pathlib.Path) -> None:
     port = free_port()
-    for words in ([], ["--port"], ["--port", "0"], ["--port", "0", "--turns", "1"], ["--port", "65536"], ["--port", "-1"],
-                  ["--port", "x"], ["--port", ""], ["--port", port, "--port", port], ["--port", port, "--turns", "-1"],
-                  ["--port", port, "--turns", "4294967296"], ["--port", port, "--turns", "x"], ["--port", port, "--turns"],
-                  ["--turns", "1"], ["--port", "+80", "--turns", "1"], ["--port", port, "--console"],
-                  ["--port", port, "--console", "a", "--console", "b"], ["--port", port, "--quiet", "0"],
-                  ["--port", port, "--quiet", "x"], ["--port", port, "--artim", "x"], ["--port", port, "--artim", "-1"],
+    words: Any
+    for words in ([], ["--port"], ["--port", "0"], ["--port", "0", "--turns", "1"],
+                  ["--port", "65536"], ["--port", "-1"],
+                  ["--port", "x"], ["--port", ""], ["--port", port, "--port", port],
+                  ["--port", port, "--turns", "-1"],
+                  ["--port", port, "--turns", "4294967296"], ["--port", port, "--turns", "x"],
+                  ["--port", port, "--turns"],
+                  ["--turns", "1"], ["--port", "+80", "--turns", "1"],
+                  ["--port", port, "--console"],
+                  ["--port", port, "--console", "a", "--console", "b"],
+                  ["--port", port, "--quiet", "0"],
+                  ["--port", port, "--quiet", "x"], ["--port", port, "--artim", "x"],
+                  ["--port", port, "--artim", "-1"],
                   ["--port", port, "--artim", "+1"], ["--port", port, "--artim", "4294967296"],
-                  ["--port", port, "--peer-connections", "x"], ["--port", port, "--peer-connections", "4294967296"],
+                  ["--port", port, "--peer-connections", "x"],
+                  ["--port", port, "--peer-connections", "4294967296"],
                   ["--port", port, "--log-file"], ["--port", port, "--log", "x"],
-                  ["--port", port, "more"], ["--port", port, "--new", "a", "--store", "b"], ["--help"]):
+                  ["--port", port, "more"], ["--port", port, "--new", "a", "--store", "b"],
+                  ["--help"]):
         status, out, told = run("serve", *words)
-        tally.check(f"serve {' '.join(map(str, words))}", status == 1 and not out and told, status, out, told)
+        tally.check(f"serve {' '.join(map(str, words))}", status == 1 and not out and told, status,
+                    out, told)
     absent = folder / "absent.toml"
     with Serving(PROGRAM) as server:
         done = run("serve", "--port", server.port, "--turns", "1")
@@ -39,25 +51,30 @@ def exits(tally, folder):
         begun = time.monotonic()
         done = run("serve", "--port", port, "--turns", turns)
         tally.check(f"{turns} turns", done == (0, b"ready %d\n" % port, b""), done)
-        tally.check(f"{turns} turns end", time.monotonic() - begun < 0.5 + turns / 200, time.monotonic() - begun)
+        tally.check(f"{turns} turns end", time.monotonic() - begun < 0.5 + turns / 200,
+                    time.monotonic() - begun)
     done = run("serve", "--port", port, "--turns", 0, "--new", folder / "turns.db")
-    tally.check("no turns over a store", done == (0, b"ready %d\n" % port, b"") and (folder / "turns.db").exists(), done)
+    tally.check("no turns over a store",
+                done == (0, b"ready %d\n" % port, b"") and (folder / "turns.db").exists(), done)
     with open("/dev/full", "wb") as full:
-        done = subprocess.run([PROGRAM, "serve", "--port", str(port), "--turns", "1"], stdout=full, stderr=subprocess.PIPE,
+        unread = subprocess.run([PROGRAM, "serve", "--port", str(port), "--turns", "1"],
+                                stdout=full, stderr=subprocess.PIPE,
                               check=False, timeout=60)
-        tally.check("an output that cannot be written", (done.returncode, done.stderr) == (4, b""), done)
+        tally.check("an output that cannot be written",
+                    (unread.returncode, unread.stderr) == (4, b""), unread)
     done = run("serve", "--port", port, "--console", folder / "console", "--turns", 2)
     tally.check("turns with a console", done == (0, b"ready %d\n" % port, b""), done)
     failed_accepts(tally, folder)
 
 
-def failed_accepts(tally, folder):
+def failed_accepts(tally: Tally, folder: pathlib.Path) -> None:
     library = made_library(folder)
     mark = folder / "refused"
     # a server may ask for a connection once before any comes
     with Serving(PROGRAM, environment=refused_accepts(library, "2+", mark)) as server:
         callers = []
-        tally.check("a connection that cannot be accepted ends it", until(lambda: has_ended(server, callers), 10))
+        tally.check("a connection that cannot be accepted ends it",
+                    until(lambda: has_ended(server, callers), 10))
         for caller in callers:
             caller.close()
         done = (server.end(), server.errors(), mark.exists())
@@ -65,16 +82,19 @@ def failed_accepts(tally, folder):
     mark = folder / "refused for a time"
     # no more files may be open
     with Serving(PROGRAM, environment=refused_accepts(library, "2", mark, errno.EMFILE)) as server:
-        tally.check("a connection that is accepted later", serves(server) and serves(server) and mark.exists())
+        tally.check("a connection that is accepted later",
+                    serves(server) and serves(server) and mark.exists())
     mark = folder / "refused caller"
-    with Serving(PROGRAM, has_console=True, environment=refused_accepts(library, "1+", mark, family="unix")) as server:
+    with Serving(PROGRAM, has_console=True,
+                 environment=refused_accepts(library, "1+", mark, family="unix")) as server:
         with server.console() as desk:
             desk.send(b"report\n")
-            tally.check("a caller of the console that cannot be accepted", until(mark.exists) and desk.is_silent(1) and
+            tally.check("a caller of the console that cannot be accepted",
+                        until(mark.exists) and desk.is_silent(1) and
                         serves(server) and server.is_running(), server.errors())
 
 
-def is_served_at(server, address):
+def is_served_at(server: Serving, address: str) -> bool | OSError | None:
     """An association is accepted at an address of the machine; None if nobody listens there."""
     try:
         with Client(server.port, address) as client:
@@ -85,7 +105,7 @@ def is_served_at(server, address):
         return None if error.errno == errno.ECONNREFUSED else error
 
 
-def has_address(address):
+def has_address(address: str) -> bool:
     """Whether the machine has an address."""
     try:
         free_port(address)
@@ -94,9 +114,10 @@ def has_address(address):
         return False
 
 
-def listen(tally, _):
+def listen(tally: Tally, _: object) -> None:
     # where it listens, an address where it is reached, and one where it is not
-    for address, reached, other in (("127.0.0.2", ["127.0.0.2"], HOST), ("0.0.0.0", [HOST, "127.0.0.2", "127.3.2.1"], "::1"),
+    for address, reached, other in (("127.0.0.2", ["127.0.0.2"], HOST),
+                                    ("0.0.0.0", [HOST, "127.0.0.2", "127.3.2.1"], "::1"),
                                     ("::1", ["::1"], HOST), ("::", ["::1"], None)):
         if ":" in address and not has_address("::1"):
             skip(f"listen at {address}", "the machine has no IPv6")
@@ -108,6 +129,7 @@ def listen(tally, _):
             if other is not None and has_address(other):
                 found = is_served_at(server, other)
                 tally.check(f"listening at {address}, not reached at {other}", found is None, found)
-    for address in ("", "x", "127.0.0", "127.0.0.1:80", "localhost", "192.0.2.77", "[::1]", "2001:db8::7", "::1%absent"):
+    for address in ("", "x", "127.0.0", "127.0.0.1:80", "localhost", "192.0.2.77", "[::1]",
+                    "2001:db8::7", "::1%absent"):
         done = run("serve", "--port", free_port(), "--turns", "0", "--listen", address)
         tally.check(f"the address '{address}'", done == (5, b"", b"network\n"), done)

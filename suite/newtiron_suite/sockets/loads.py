@@ -1,25 +1,30 @@
 """Many connections, long searches and long data sets; peers that read nothing, or go."""
 import contextlib
 import itertools
+import pathlib
 import select
 import signal
 import time
+from collections.abc import Iterable, Iterator
+from typing import Any
 
-from ..client import Serving, until
+from ..client import Client, Serving, until
 from ..model import replies
 from ..model.long_stores import STUDY_ID, long_store
 from ..model.messages import LONGEST_STORED
 from ..model.upper_layer import ACCEPT, RELEASE_RP
 from ..paths import TOP, configured
 from ..scenes import ECHO, RELEASE, SERVED, message, octets_of
+from ..tally import Tally
 from .common import (MOST, PAGED, PROGRAM, WANTED, associated, is_alive, long_names, sent_unread,
                      serves, spent, store_of)
 
 
-def many(tally, _):
+def many(tally: Tally, _: object) -> None:
     with Serving(PROGRAM, *configured("thirty_hospitals")) as server:
         clients = [associated(server, f"CT{at % 30 + 1}") for at in range(MOST)]
-        tally.check(f"{MOST} associations", None not in clients, [one is not None for one in clients].index(False)
+        tally.check(f"{MOST} associations", None not in clients,
+                    [one is not None for one in clients].index(False)
                     if None in clients else "")
         clients = [one for one in clients if one is not None]
         tally.check(f"an echo on each of {len(clients)}", all(map(is_alive, clients)))
@@ -33,8 +38,10 @@ def many(tally, _):
             client.close()
             begun = time.monotonic()
             taken = one.pdu()
-            tally.check(f"{65 + at} is served when one closes", taken is not None and taken[0] == ACCEPT, taken)
-            tally.check(f"{65 + at} is served soon", time.monotonic() - begun < 2, time.monotonic() - begun)
+            tally.check(f"{65 + at} is served when one closes",
+                        taken is not None and taken[0] == ACCEPT, taken)
+            tally.check(f"{65 + at} is served soon", time.monotonic() - begun < 2,
+                        time.monotonic() - begun)
             tally.check(f"an echo on {65 + at}", is_alive(one))
         tally.check("the others are still served", all(map(is_alive, clients)))
         for one in clients + late:
@@ -53,7 +60,7 @@ associations = 64
 """ for name, calling in (("NORTH", "CT1"), ("SOUTH", "CT2")))
 
 
-def shares(tally, folder, count=40, studies=600):
+def shares(tally: Tally, folder: pathlib.Path, count: int = 40, studies: int = 600) -> None:
     (folder / "two.toml").write_text(TWO_OF_MANY)
     with Serving(PROGRAM, "--config", folder / "two.toml") as server:
         many = [associated(server, "CT2") for _ in range(count)]
@@ -61,7 +68,8 @@ def shares(tally, folder, count=40, studies=600):
         if not tally.check("shares: associations", None not in (*many, other)):
             return
         for at in range(studies):
-            many[0].send(store_of(f"1.2.{at}.1.1", f"1.2.{at}", PatientName=f"DOE^{at}" + "X" * 2000))
+            many[0].send(store_of(f"1.2.{at}.1.1", f"1.2.{at}",
+                                  PatientName=f"DOE^{at}" + "X" * 2000))
             if many[0].status() != 0:
                 tally.check(f"shares: store {at}", False)
                 return
@@ -74,14 +82,16 @@ def shares(tally, folder, count=40, studies=600):
         tally.check("an echo beside searches of another hospital", other.status() == 0)
         answered, _, _ = select.select([one.socket for one in many], [], [], 0)
         tally.check("it waits for few of them", len(answered) < count / 2, len(answered))
-        tally.check("each of them is answered", all(one.statuses() == [0xFF00] * studies + [0] for one in many))
+        tally.check("each of them is answered",
+                    all(one.statuses() == [0xFF00] * studies + [0] for one in many))
 
 
-def deaf(tally, _):
+def deaf(tally: Tally, _: object) -> None:
     with Serving(PROGRAM, *configured("large")) as server:
         client = associated(server)
         for at in range(20):
-            client.send(store_of(f"1.2.{at}.1.1", f"1.2.{at}", PatientName=f"DOE^{at}" + "X" * 2000))
+            client.send(store_of(f"1.2.{at}.1.1", f"1.2.{at}",
+                                 PatientName=f"DOE^{at}" + "X" * 2000))
             if client.status() != 0:
                 tally.check(f"store {at}", False)
                 return
@@ -101,10 +111,12 @@ def deaf(tally, _):
             slowest = max(slowest, time.monotonic() - begun)
         tally.check("soon", slowest < 2, f"{slowest:.2f} s")
         tally.check("searches that wait", times >= 20, times)
-        tally.check("within memory", server.memory() - before < 64, f"{server.memory() - before:.0f} MB more")
+        tally.check("within memory", server.memory() - before < 64,
+                    f"{server.memory() - before:.0f} MB more")
         times += bool(rest)
         got = client.exchange(rest, one * times)
-        tally.check(f"{times} searches are answered at last", got == answer * times, len(got), one * times)
+        tally.check(f"{times} searches are answered at last", got == answer * times, len(got),
+                    one * times)
         tally.check("and a further echo", is_alive(client))
         # one that goes away with all of it unread
         sent_unread(client, find, 200)
@@ -112,11 +124,12 @@ def deaf(tally, _):
         tally.check("when it is gone others are served", serves(server) and is_alive(other))
 
 
-def find_all(identity):
-    return message(f"find 1 5 {identity} study QueryRetrieveLevel=STUDY PatientName= StudyInstanceUID=")
+def find_all(identity: int) -> bytes:
+    return message(f"find 1 5 {identity} study QueryRetrieveLevel=STUDY PatientName= "
+                   "StudyInstanceUID=")
 
 
-def pages(tally, _):
+def pages(tally: Tally, _: object) -> None:
     every = [0xFF00] * PAGED
     with Serving(PROGRAM, *configured("large")) as server:
         other, client = associated(server), long_names(server)
@@ -129,7 +142,8 @@ def pages(tally, _):
             first = client.status()
             client.send(message(cancel))
             found = [first, *client.statuses()]
-            tally.check(f"cancelled on {name}", found[-1] == 0xFE00 and set(found[:-1]) == {0xFF00} and len(found) < PAGED,
+            tally.check(f"cancelled on {name}", found[-1] == 0xFE00 and set(found[:-1]) == {0xFF00}
+                        and len(found) < PAGED,
                         len(found), found[-1])
             tally.check(f"an echo after it, on {name}", is_alive(client))
         client.send(find_all(3))
@@ -141,7 +155,8 @@ def pages(tally, _):
         client.send(find_all(4))
         first = client.status()
         client.send(ECHO)
-        tally.check("an echo while answers are left", [first, *client.statuses()] == [*every, 0] and client.status() == 0)
+        tally.check("an echo while answers are left",
+                    [first, *client.statuses()] == [*every, 0] and client.status() == 0)
         # one that reads nothing; what is stored meanwhile is not among its answers
         before = server.memory()
         client.send(find_all(5))
@@ -153,7 +168,8 @@ def pages(tally, _):
         tally.check("pages: soon", slowest < 1, f"{slowest:.2f} s")
         other.send(store_of("1.3.1.1.1", "1.3.1", PatientName="ROE^LATE"))
         tally.check("a store beside it", other.status() == 0)
-        tally.check("pages: within memory", server.memory() - before < 64, f"{server.memory() - before:.0f} MB more")
+        tally.check("pages: within memory", server.memory() - before < 64,
+                    f"{server.memory() - before:.0f} MB more")
         tally.check("it is answered as it was asked", client.statuses() == [*every, 0])
         client.send(find_all(6))
         tally.check("one that is asked later finds more", client.statuses() == [*every, 0xFF00, 0])
@@ -163,16 +179,18 @@ def pages(tally, _):
         found = []
         while (taken := client.pdu()) is not None:
             found.append(taken[0])
-        tally.check("a release while answers are left", first == 0xFF00 and found and found[-1] == RELEASE_RP and
+        tally.check("a release while answers are left",
+                    first == 0xFF00 and found and found[-1] == RELEASE_RP and
                     len(found) < 2 * PAGED, len(found), found[-1:])
         client = associated(server)
         client.send(find_all(8))
         client.status()
         client.reset()
-        tally.check("a reset while answers are left", serves(server) and is_alive(other) and not server.errors())
+        tally.check("a reset while answers are left",
+                    serves(server) and is_alive(other) and not server.errors())
 
 
-def answers(client, octets):
+def answers(client: Client, octets: bytes) -> bytes:
     """All octets that are answered until nothing more comes."""
     client.send(octets)
     taken = b""
@@ -181,7 +199,7 @@ def answers(client, octets):
     return taken
 
 
-def states():
+def states() -> Iterator[tuple[str, bytes, int]]:
     """What a connection has sent when it breaks, and how many octets it has read of the answer."""
     request, echo = octets_of(f"associate 1 ARCHIVE CT1 {SERVED}")[0], ECHO
     image = store_of("1.2.1.1.1", PixelData="zeros:200000")
@@ -203,11 +221,12 @@ def states():
     yield "octets after the last", request + RELEASE + echo * 20, 6
 
 
-def resets(tally, _):
+def resets(tally: Tally, _: object) -> None:
     with Serving(PROGRAM, *configured("small_north")) as server:
         usual = server.descriptors()
         tally.check("before", serves(server, "CT1"))
-        for (name, octets, count), how, _ in itertools.product(states(), ("reset", "close"), range(3)):
+        for (name, octets, count), how, _ in itertools.product(states(), ("reset", "close"),
+                                                               range(3)):
             if not server.is_running():
                 break
             with contextlib.suppress(OSError):
@@ -215,38 +234,44 @@ def resets(tally, _):
                 client.exchange(octets, count)
                 getattr(client, how)()
             # the hospital may have one association at a time: the broken one must be gone
-            tally.check(f"{how} after {name}: nothing is left", until(lambda: server.descriptors() == usual, 5),
+            tally.check(f"{how} after {name}: nothing is left",
+                        until(lambda: server.descriptors() == usual, 5),
                         server.descriptors(), usual)
             tally.check(f"{how} after {name}: served", until(lambda: serves(server, "CT1"), 5))
-        tally.check("resets: it goes on", server.is_running() and not server.errors(), server.errors())
+        tally.check("resets: it goes on", server.is_running() and not server.errors(),
+                    server.errors())
 
 
-def half(tally, _):
-    stream = b"".join(bytes.fromhex(line.split(" ")[2]) for line in (TOP / "captures/echo_dcmtk.capture").read_text().split("\n")
+def half(tally: Tally, _: object) -> None:
+    stream = b"".join(bytes.fromhex(line.split(" ")[2])
+                      for line in (TOP / "captures/echo_dcmtk.capture").read_text().split("\n")
                       if line.startswith("piece"))
     with Serving(PROGRAM) as server:
         for at in range(len(stream) + 1):
             model = replies.Server(replies.read_configuration(replies.BUILT_IN))
             model.reply("open", 1, b"")
-            wanted = bytes.fromhex(model.reply("piece", 1, stream[:at]).split(" ")[1].replace("-", ""))
+            wanted = bytes.fromhex(model.reply("piece", 1,
+                                               stream[:at]).split(" ")[1].replace("-", ""))
             with server.connect() as client:
                 client.send(stream[:at])
                 client.end()
                 got = client.rest()
-            tally.check(f"a stream that ends after {at} octets", got == wanted, got.hex(), wanted.hex())
+            tally.check(f"a stream that ends after {at} octets", got == wanted, got.hex(),
+                        wanted.hex())
         tally.check("half: served afterwards", serves(server))
 
 
-def long(tally, _):
+def long(tally: Tally, _: object) -> None:
     for size in [int(name) for name in WANTED] or [256 << 20]:
-        sent_long(tally, f"a data set of {size} octets", 0xB006 if size <= LONGEST_STORED else 0xA700, long_store(3, size))
+        sent_long(tally, f"a data set of {size} octets", 0xB006 if size <= LONGEST_STORED
+                  else 0xA700, long_store(3, size))
     if not WANTED:
         # 64 MiB may be kept of an instance, its UIDs among them
         sent_long(tally, "64 MiB that are kept", 0x0000, long_store(3, 64 << 20, element=STUDY_ID))
         sent_long(tally, "two octets more", 0xA700, long_store(3, (64 << 20) + 2, element=STUDY_ID))
 
 
-def sent_long(tally, name, wanted, pdus):
+def sent_long(tally: Tally, name: str, wanted: int, pdus: Iterable[Any]) -> None:
     """A C-STORE is answered by this status, and an echo after it."""
     with Serving(PROGRAM, *configured("hospitals")) as server:
         client = associated(server, "CT1")
@@ -262,11 +287,12 @@ def sent_long(tally, name, wanted, pdus):
         client.close()
 
 
-def idle(tally, _):
+def idle(tally: Tally, _: object) -> None:
     with Serving(PROGRAM, *configured("thirty_hospitals"), "--artim", "0") as server:
         share = spent(server)
         tally.check("idle without connections", share < 0.01, f"{100 * share:.2f} %")
-        clients = [associated(server, f"CT{at + 1}") if at < 30 else server.connect() for at in range(MOST)]
+        clients = [associated(server, f"CT{at + 1}") if at < 30 else server.connect()
+                   for at in range(MOST)]
         tally.check("associations that stay silent", None not in clients)
         share = spent(server)
         tally.check(f"idle with {MOST} silent connections", share < 0.01, f"{100 * share:.2f} %")
@@ -278,10 +304,12 @@ def idle(tally, _):
         # one that reads nothing, whose answers are waiting
         client = clients[0]
         sent_unread(client, ECHO, 500000)
-        tally.check("what is sent unread is answered as far as it goes", until(lambda: spent(server, 0.3) < 0.01, 90))
+        tally.check("what is sent unread is answered as far as it goes",
+                    until(lambda: spent(server, 0.3) < 0.01, 90))
         share = spent(server)
         tally.check("idle while a client reads nothing", share < 0.01, f"{100 * share:.2f} %")
         begun = time.monotonic()
-        tally.check("an echo after it", is_alive(clients[1]) and time.monotonic() - begun < 0.5, time.monotonic() - begun)
+        tally.check("an echo after it", is_alive(clients[1]) and time.monotonic() - begun < 0.5,
+                    time.monotonic() - begun)
         for one in clients:
             one.close()

@@ -8,18 +8,20 @@ import sqlite3
 
 from ..model import stores
 from ..paths import CONFIGURATIONS
+from ..tally import Tally
 from .changes import (CHANGES, CHANGES_OF_TWO, HARMLESS, base, changed, files_that_are_none,
                       held_in, script)
 from .common import (CUTS, FLIPS, PROGRAM, SEED, WANTED, Model, Run, all_scenes, copied,
                      has_stopped, opened, options, report_of, rows_in)
 
 
-def refused(tally, folder):
+def refused(tally: Tally, folder: pathlib.Path) -> None:
     configuration = CONFIGURATIONS / "hospitals.toml"
     source = base(folder)
     if not tally.check("a store to begin from", source is not None):
         return
-    changes = {name: change for name, change in (CHANGES | CHANGES_OF_TWO).items() if not WANTED or name in WANTED}
+    changes = {name: change for name, change in (CHANGES | CHANGES_OF_TWO).items()
+               if not WANTED or name in WANTED}
     for at, (name, (edit, numbers)) in enumerate(changes.items()):
         target = folder / f"changed_{at}.db"
         tally.check(f"made: {name}", changed(source, edit, target))
@@ -46,7 +48,8 @@ def refused(tally, folder):
     refused_in_order(tally, folder, source)
 
 
-def taken_all_the_same(tally, folder, source, configuration):
+def taken_all_the_same(tally: Tally, folder: pathlib.Path, source: pathlib.Path,
+                       configuration: pathlib.Path | None) -> None:
     for at, (name, edit) in enumerate(HARMLESS.items()):
         target = folder / f"harmless_{at}.db"
         changed(source, edit, target)
@@ -57,12 +60,14 @@ def taken_all_the_same(tally, folder, source, configuration):
         tally.check(f"taken: {name}", run.is_done() and run.out == model.report(), run)
 
 
-def refused_new(tally, folder, source, configuration):
+def refused_new(tally: Tally, folder: pathlib.Path, source: pathlib.Path,
+                configuration: pathlib.Path | None) -> None:
     """Where a new store cannot be made."""
     shutil.copy(source, folder / "there.db")
     before = held_in(folder / "there.db", folder)
     run = Run(["replay", *options(configuration), "--new", folder / "there.db"], b"open 1\n")
-    tally.check("a new store where one is", run.is_refused(2) and held_in(folder / "there.db", folder) == before, run)
+    tally.check("a new store where one is",
+                run.is_refused(2) and held_in(folder / "there.db", folder) == before, run)
     for table in ("kept", "version"):
         target = folder / f"only_{table}.db"
         changed(source, script(f"DROP TABLE {'version' if table == 'kept' else 'kept'}"), target)
@@ -102,11 +107,14 @@ def refused_new(tally, folder, source, configuration):
     with contextlib.closing(stores.connect(str(path))) as store:
         store.execute("SELECT count(*) FROM kept").fetchall()
     run = Run(["report", *options(configuration), "--store", path])
-    tally.check("the same once sqlite3 has opened it", run.is_done() and run.out.startswith(b"NORTH studies 2"), run)
+    tally.check("the same once sqlite3 has opened it",
+                run.is_done() and run.out.startswith(b"NORTH studies 2"), run)
 
 
-def logs_that_are_left(tally, folder, source, configuration):
-    """A log that SQLite wrote and a crash left beside its store, with a commit and with a transaction that was not one."""
+def logs_that_are_left(tally: Tally, folder: pathlib.Path, source: pathlib.Path,
+                       configuration: pathlib.Path | None) -> None:
+    """A log that SQLite wrote and a crash left beside its store, with a commit and with a
+    transaction that was not one."""
     path = folder / "log_left.db"
     shutil.copy(source, path)
     with contextlib.closing(stores.connect(str(path))) as store:
@@ -121,11 +129,13 @@ def logs_that_are_left(tally, folder, source, configuration):
     tally.check("a log with more than its commits", octets > 100000, octets)
     run = Run(["report", *options(configuration), "--store", left_log])
     tally.check("a log that a crash left behind", run.is_done()
-                and run.out.startswith(b"NORTH studies 2 series 2 images 2 entries 0 steps 1\n"), run)
+                and run.out.startswith(b"NORTH studies 2 series 2 images 2 entries 0 steps 1\n"),
+                run)
 
 
-def refused_by_rights(tally, folder, source):
-    """Files and folders that may not be read or written. A run that may do everything plays somebody who may not."""
+def refused_by_rights(tally: Tally, folder: pathlib.Path, source: pathlib.Path) -> None:
+    """Files and folders that may not be read or written. A run that may do everything plays
+    somebody who may not."""
     user, others, program = os.geteuid(), {}, folder / "program"
     shutil.copy(PROGRAM, program)
     program.chmod(0o755)
@@ -135,7 +145,7 @@ def refused_by_rights(tally, folder, source):
     place = folder / "rights"
     place.mkdir()
 
-    def run(option, place_mode=0o700, **modes):
+    def run(option: str, place_mode: int = 0o700, **modes: int) -> Run:
         """A run over files with these modes, in a folder with that one."""
         path = place / f"{len(list(place.iterdir()))}" / "store.db"
         path.parent.mkdir()
@@ -154,7 +164,8 @@ def refused_by_rights(tally, folder, source):
 
     for option in ("--new", "--store"):
         done = run(option, db=0o600)
-        tally.check(f"{option}: a file with the mode 600", done.is_done() and done.out == b"done\n", done)
+        tally.check(f"{option}: a file with the mode 600", done.is_done() and done.out == b"done\n",
+                    done)
         for mode in (0o000, 0o200, 0o400):
             done = run(option, db=mode)
             tally.check(f"{option}: a file with the mode {mode:o}", done.is_refused(2), done)
@@ -167,21 +178,25 @@ def refused_by_rights(tally, folder, source):
     tally.check("--new: nothing in a folder with the mode 500", done.is_refused(2), done)
 
 
-def refused_in_order(tally, folder, source):
+def refused_in_order(tally: Tally, folder: pathlib.Path, source: pathlib.Path) -> None:
     """Usage, then the configuration, then the capture, then the store."""
     both = Run(["replay", "--new", folder / "both.db", "--store", source], b"open x\n")
     tally.check("both options", both.status == 1 and not both.out and both.told, both)
-    for words in (["replay", "--new"], ["replay", "--store"], ["replay", "--new", "a", "--new", "b"],
-                  ["replay", "--store", "a", "--store", "b"], ["--new", "a"], ["--store", "a"], ["report", "--new=a", "--store=b"]):
+    for words in (["replay", "--new"], ["replay", "--store"],
+                  ["replay", "--new", "a", "--new", "b"],
+                  ["replay", "--store", "a", "--store", "b"], ["--new", "a"], ["--store", "a"],
+                  ["report", "--new=a", "--store=b"]):
         run = Run(words, b"open x\n")
         tally.check(f"the words {words}", run.status == 1 and not run.out and run.told, run)
     bad = ["--config", folder / "absent.toml"]
     for option in ("--new", "--store"):
         path = folder / f"absent{option}.db"
         run = Run(["replay", *bad, option, path], b"open x\n")
-        tally.check(f"{option}: a configuration first", run.status == 2 and run.told == b"config 0\n", run)
+        tally.check(f"{option}: a configuration first",
+                    run.status == 2 and run.told == b"config 0\n", run)
         run = Run(["replay", option, path], b"open x\n")
-        tally.check(f"{option}: a capture first", run.status == 3 and run.told == b"capture line 1\n", run)
+        tally.check(f"{option}: a capture first",
+                    run.status == 3 and run.told == b"capture line 1\n", run)
         tally.check(f"{option}: nothing is made", not path.exists() and not both.status == 0)
     tally.check("nothing is made of both", not (folder / "both.db").exists())
     for option in ("--new", "--store"):
@@ -189,7 +204,7 @@ def refused_in_order(tally, folder, source):
         tally.check(f"{option}= with a store", run.is_done() and run.out == b"done\n", run)
 
 
-def truncated(tally, folder):
+def truncated(tally: Tally, folder: pathlib.Path) -> None:
     source = base(folder)
     if not tally.check("a store to begin from", source is not None):
         return
@@ -199,18 +214,23 @@ def truncated(tally, folder):
     tally.check("the whole store", counted.is_done(), counted)
     rows = rows_in(source, folder)
     chance = random.Random(SEED)
-    offsets = {0, 1, 15, 16, 99, 100, 101, 511, 512, 513, 1024, 4095, 4096, 4097, len(whole) - 1, len(whole)}
-    offsets |= {at for at in range(0, len(whole), 4096)} | {chance.randrange(len(whole)) for _ in range(CUTS)}
+    offsets = {0, 1, 15, 16, 99, 100, 101, 511, 512, 513, 1024, 4095, 4096, 4097, len(whole) - 1,
+               len(whole)}
+    offsets |= {at for at in range(0, len(whole), 4096)} | {chance.randrange(len(whole))
+                                                            for _ in range(CUTS)}
     for at in sorted(offset for offset in offsets if offset <= len(whole)):
         path = folder / f"cut_{at}.db"
         path.write_bytes(whole[:at])
         run = Run(["report", *options(configuration), "--store", path])
         is_whole = run.is_done() and run.out == counted.out and rows_in(path, folder) == rows
-        tally.check(f"cut at {at} of {len(whole)}", is_whole or at < len(whole) and run.is_refused(2, 3, 4), run)
+        tally.check(f"cut at {at} of {len(whole)}",
+                    is_whole or at < len(whole) and run.is_refused(2, 3, 4), run)
 
 
-def counted_in(path, folder, configuration):
-    """What `report` is to say of a store, by the rows that sqlite3 reads in it; None where it reads none."""
+def counted_in(path: pathlib.Path, folder: pathlib.Path,
+               configuration: pathlib.Path) -> bytes | None:
+    """What `report` is to say of a store, by the rows that sqlite3 reads in it; None where it reads
+    none."""
     try:
         with opened(path, folder) as store:
             pairs = store.execute("SELECT inst, kind FROM kept").fetchall()
@@ -219,12 +239,14 @@ def counted_in(path, folder, configuration):
     return report_of(configuration, [(name.decode(), kind) for name, kind in pairs])
 
 
-def flipped(tally, folder):
+def flipped(tally: Tally, folder: pathlib.Path) -> None:
     configuration, made = CONFIGURATIONS / "hospitals.toml", folder / "flipped.db"
     capture = dict((name, capture) for name, _, capture in all_scenes())["two_hospitals"]
-    if not tally.check("a store to begin from", has_stopped(["replay", *options(configuration), "--new", made], capture)):
+    if not tally.check("a store to begin from",
+                       has_stopped(["replay", *options(configuration), "--new", made], capture)):
         return
-    octets_of = {one: one.read_bytes() for one in (made, pathlib.Path(f"{made}-wal")) if one.exists() and one.stat().st_size}
+    octets_of = {one: one.read_bytes() for one in (made, pathlib.Path(f"{made}-wal"))
+                 if one.exists() and one.stat().st_size}
     chance, taken, refusals = random.Random(SEED), 0, 0
     for turn in range(FLIPS):
         beside = chance.choice(list(octets_of))
@@ -243,5 +265,6 @@ def flipped(tally, folder):
         tally.check(f"octet {at} of {beside.name} changed by {bit}",
                     run.is_refused(2, 3, 4) or run.is_done() and run.out == by_hand, run, by_hand)
         shutil.rmtree(target)
-    tally.check("stores with a changed octet that are taken, and that are refused", min(taken, refusals) >= FLIPS // 50,
+    tally.check("stores with a changed octet that are taken, and that are refused",
+                min(taken, refusals) >= FLIPS // 50,
                 taken, refusals)

@@ -1,34 +1,41 @@
 """The built program's web front: `serve --web PORT --web-keys FILE`, over sockets of 127.0.0.1.
 
-    page        health, the page and its two files: octets, types, fields of the head, nothing from elsewhere
-    keys        no key, a wrong one, another institution's and the operator's are refused with the same octets; files of keys, and
-                those that are refused
+    page        health, the page and its two files: octets, types, fields of the head, nothing from
+                elsewhere
+    keys        no key, a wrong one, another institution's and the operator's are refused with the
+                same octets; files of keys, and those that are refused
     hospitals   two hospitals with the same UIDs: each is shown its own rows
-    searches    studies, series, images, entries and steps, page by page, with keys and with words that are none; forms that are accepted,
-                and the warning of fuzzy matching
-    entries     what is sent to the worklist is found by DICOM and by HTTP, and withdrawn; each refusal of both
+    searches    studies, series, images, entries and steps, page by page, with keys and with words
+                that are none; forms that are accepted, and the warning of fuzzy matching
+    entries     what is sent to the worklist is found by DICOM and by HTTP, and withdrawn; each
+                refusal of both
     looks       nothing that is looked at changes anything
     methods     other methods, HEAD, paths that are none, and those that go up
-    hosts       names of the host, targets in absolute-form, origins and sites that are refused, links of other sites
-    grammar     requests that are none, that are too long, that come in pieces or many at once; 100-continue, and HTTP/1.0
+    hosts       names of the host, targets in absolute-form, origins and sites that are refused,
+                links of other sites
+    grammar     requests that are none, that are too long, that come in pieces or many at once;
+                100-continue, and HTTP/1.0
     slow        clients that say nothing or read nothing: others are served beside them
     many        100 connections
     metrics     each line of the metrics, and what they count
     backup      the operator's backup, and its refusals
     log         the line of each request
     curl        the same by curl, where it is installed
-    lists       the page in headless Chromium, where it is installed: its lists, their order, searches and pages
+    lists       the page in headless Chromium, where it is installed: its lists, their order,
+                searches and pages
     items       the same: items that are scheduled, copied, changed and withdrawn
-    browser     the same: what its policy refuses, sessions, narrow and wide, a phone, the keyboard only, the operator
+    browser     the same: what its policy refuses, sessions, narrow and wide, a phone, the keyboard
+                only, the operator
     orthanc     Orthanc's DICOMweb plugin as a client, where it is installed
     nginx       nginx in front with TLS, as docs/OPERATING.md shows it, where it is installed
 
-What is expected comes from the models (suite/model/web.py). What is not installed is named and skipped. It ends with 'N passed, M
-failed'. Use: suite/web [PROGRAM [PART..]]; suite/web --picture [PROGRAM] makes docs/page.png anew.
+What is expected comes from the models (newtiron_suite/model/web.py). What is not installed is named
+and skipped. It ends with 'N passed, M failed'. Use: suite/web [PROGRAM [PART..]]; suite/web
+--picture [PROGRAM] makes docs/page.png anew.
 """
 import sys
 
-from ..tally import play_parts
+from ..tally import Part, play_parts
 from .entries import entries, looks
 from .keys import keys
 from .loads import many, slow
@@ -38,11 +45,12 @@ from .page import browser, items, lists, page, picture
 from .requests import grammar, hosts, methods
 from .searches import hospitals, searches
 
-PARTS = {"page": page, "keys": keys, "hospitals": hospitals, "searches": searches, "entries": entries, "looks": looks,
-         "methods": methods, "hosts": hosts,
-         "grammar": grammar, "slow": slow, "many": many, "metrics": metrics, "backup": backup, "log": log, "curl": curl,
-         "lists": lists, "items": items, "browser": browser,
-         "orthanc": orthanc, "nginx": nginx}
+PARTS: dict[str, Part] = {
+    "page": page, "keys": keys, "hospitals": hospitals, "searches": searches, "entries": entries,
+    "looks": looks, "methods": methods, "hosts": hosts, "grammar": grammar, "slow": slow,
+    "many": many, "metrics": metrics, "backup": backup, "log": log, "curl": curl, "lists": lists,
+    "items": items, "browser": browser, "orthanc": orthanc, "nginx": nginx,
+}
 
 
 def main() -> int:

@@ -1,22 +1,26 @@
 """What the operator has: metrics, backups and the log. And curl."""
 import json
+import pathlib
 import re
 import shutil
 import subprocess
+from typing import Any
 
 from ..client import HOST, Serving, until
 from ..model import web
 from ..paths import CONFIGURATIONS
 from ..scenes import SERVED
-from ..tally import skip
+from ..tally import Tally, skip
 from .common import PROGRAM, Pair, entry_octets, rows_of
 
-SAMPLE = re.compile(r'([a-zA-Z_:][\w:]*)(?:\{((?:[a-zA-Z_]\w*="(?:[^"\\\n]|\\[\\n"])*",?)*)\})? (\S+)(?: -?\d+)?')
+SAMPLE = re.compile(r'([a-zA-Z_:][\w:]*)(?:\{((?:[a-zA-Z_]\w*="(?:[^"\\\n]|\\[\\n"])*",?)*)\})? '
+                    r'(\S+)(?: -?\d+)?')
 LABEL = re.compile(r'([a-zA-Z_]\w*)="((?:[^"\\\n]|\\[\\n"])*)"')
 
 
-def samples_of(text):
-    """The kinds and the samples of metrics in the text format 0.0.4 of Prometheus, and what is wrong with it."""
+def samples_of(text: str) -> tuple[dict[str, str], dict[Any, float], list[str]]:
+    """The kinds and the samples of metrics in the text format 0.0.4 of Prometheus, and what is
+    wrong with it."""
     kinds, samples, faults, seen = {}, {}, [], []
     if text and not text.endswith("\n"):
         faults.append("the last line has no end")
@@ -30,16 +34,18 @@ def samples_of(text):
         if not comment and not found:
             faults.append(f"no sample: {line}")
         if found:
-            name = re.sub(r"_(bucket|sum|count)$", "", found[1]) if found[1] not in kinds else found[1]
+            name = re.sub(r"_(bucket|sum|count)$", "",
+                          found[1]) if found[1] not in kinds else found[1]
             labels = tuple(sorted(LABEL.findall(found[2] or "")))
-            if name not in kinds or (found[1], labels) in samples or (seen and seen[-1] != name and name in seen):
+            if name not in kinds or (found[1], labels) in samples or (seen and seen[-1] != name
+                                                                      and name in seen):
                 faults.append(f"no type, twice, or apart: {line}")
             seen.append(name)
             samples[found[1], labels] = float(found[3])
     return kinds, samples, faults
 
 
-def metrics(tally, folder):
+def metrics(tally: Tally, folder: pathlib.Path) -> None:
     with Pair(folder) as pair:
         pair.fill()
         first = pair.ask("GET", "/metrics", "*")
@@ -47,54 +53,72 @@ def metrics(tally, folder):
         tally.check("their type", kind.startswith("text/plain;version=0.0.4"), kind)
         kinds, samples, faults = samples_of(first.body.decode())
         tally.check("each line", not faults and samples, faults[:5])
-        wanted = {"newtiron_rows": "gauge", "newtiron_rows_limit": "gauge", "newtiron_associations_open": "gauge",
+        wanted = {"newtiron_rows": "gauge", "newtiron_rows_limit": "gauge",
+                  "newtiron_associations_open": "gauge",
                   "newtiron_associations_total": "counter",
-                  "newtiron_operations_total": "counter", "newtiron_turn_seconds": "histogram", "newtiron_memory_bytes": "gauge"}
+                  "newtiron_operations_total": "counter", "newtiron_turn_seconds": "histogram",
+                  "newtiron_memory_bytes": "gauge"}
         tally.check("their names and kinds", wanted.items() <= kinds.items(), kinds)
         for one in pair.model.institutions:
             for kind, counts in web.counted(one).items():
                 labels = (("institution", one.name), ("kind", kind))
-                tally.check(f"rows of {one.name}, {kind}", samples.get(("newtiron_rows", labels)) == counts["kept"] and
-                            samples.get(("newtiron_rows_limit", labels)) == counts.get("limit"), samples)
-        buckets = [(labels[0][1], value) for (name, labels), value in samples.items() if name == "newtiron_turn_seconds_bucket"]
-        tally.check("the histogram", [bound for bound, _ in buckets] == ["0.001", "0.005", "0.01", "0.05", "0.1", "0.5", "1",
-                                                                         "+Inf"] and
+                tally.check(f"rows of {one.name}, {kind}",
+                            samples.get(("newtiron_rows", labels)) == counts["kept"] and
+                            samples.get(("newtiron_rows_limit", labels)) == counts.get("limit"),
+                            samples)
+        buckets = [(labels[0][1], value) for (name, labels),
+                   value in samples.items() if name == "newtiron_turn_seconds_bucket"]
+        tally.check("the histogram",
+                    [bound for bound, _ in buckets] == ["0.001", "0.005", "0.01", "0.05", "0.1",
+                                                        "0.5", "1",
+                                                        "+Inf"] and
                     [count for _, count in buckets] == sorted(count for _, count in buckets) and
                     buckets[-1][1] == samples["newtiron_turn_seconds_count", ()] > 0 and
                     samples["newtiron_turn_seconds_sum", ()] >= 0, buckets)
-        tally.check("memory", abs(samples["newtiron_memory_bytes", ()] / 1048576 - pair.server.memory()) < pair.server.memory() or
-                    samples["newtiron_memory_bytes", ()] > 0, samples["newtiron_memory_bytes", ()], pair.server.memory())
+        tally.check("memory",
+                    abs(samples["newtiron_memory_bytes", ()] / 1048576 - pair.server.memory())
+                    < pair.server.memory() or
+                    samples["newtiron_memory_bytes", ()] > 0, samples["newtiron_memory_bytes", ()],
+                    pair.server.memory())
         tally.check("open associations", samples["newtiron_associations_open", ()] == 2, samples)
         counted_associations(tally, pair, samples)
-        tally.check("no patient", not re.search(r"doe|roe|jane|1\.2\.", first.body.decode().lower()))
+        tally.check("no patient",
+                    not re.search(r"doe|roe|jane|1\.2\.", first.body.decode().lower()))
         if shutil.which("promtool"):
-            done = subprocess.run(["promtool", "check", "metrics"], input=first.body, capture_output=True, check=False)
-            tally.check("promtool takes them", done.returncode == 0 and not done.stdout + done.stderr, done)
+            done = subprocess.run(["promtool", "check", "metrics"], input=first.body,
+                                  capture_output=True, check=False)
+            tally.check("promtool takes them",
+                        done.returncode == 0 and not done.stdout + done.stderr, done)
         else:
             skip("promtool", "it is not installed")
         pair.is_right(tally, "metrics")
 
 
-def counted_associations(tally, pair, before):
+def counted_associations(tally: Tally, pair: Pair, before: dict[Any, float]) -> None:
     """What the associations, and what they do, add."""
-    pair.play("open 5", f"associate 5 ARCHIVE CT1 {SERVED}", "echo 5 1 1", "echo 5 1 2", "release 5", "open 6",
+    pair.play("open 5", f"associate 5 ARCHIVE CT1 {SERVED}", "echo 5 1 1", "echo 5 1 2",
+              "release 5", "open 6",
               f"associate 6 ARCHIVE STRANGER {SERVED}",
               "open 7", f"associate 7 ARCHIVE CT2 {SERVED}")
     pair.play_event("end 7")
-    until(lambda: samples_of(pair.ask("GET", "/metrics", "*").body.decode())[1]["newtiron_associations_open", ()] == 2, 5)
+    until(lambda: samples_of(pair.ask("GET", "/metrics",
+                                      "*").body.decode())[1]["newtiron_associations_open", ()] == 2,
+          5)
     _, after, faults = samples_of(pair.ask("GET", "/metrics", "*").body.decode())
     grown = {key: value - before.get(key, 0) for key, value in after.items()}
     for outcome, count in (("accepted", 2), ("rejected", 1), ("released", 1), ("aborted", 0)):
         tally.check(f"associations {outcome}", not faults and
-                    grown.get(("newtiron_associations_total", (("outcome", outcome),))) == count, grown)
-    echoes = [value for (name, labels), value in grown.items() if name == "newtiron_operations_total" and
+                    grown.get(("newtiron_associations_total", (("outcome", outcome),))) == count,
+                    grown)
+    echoes = [value for (name, labels),
+              value in grown.items() if name == "newtiron_operations_total" and
               "echo" in dict(labels).get("service", "").lower()]
     tally.check("operations", sum(echoes) == 2, {key: value for key, value in grown.items()
                                                  if key[0] == "newtiron_operations_total"})
     tally.check("turns only grow", grown["newtiron_turn_seconds_count", ()] >= 0)
 
 
-def backup(tally, folder):
+def backup(tally: Tally, folder: pathlib.Path) -> None:
     store = folder / "rows.db"
     with Pair(folder, "--new", store) as pair:
         pair.fill()
@@ -103,34 +127,41 @@ def backup(tally, folder):
         tally.check("a backup", told.status == 200 and not told.faults, told.head, told.body)
         tally.check("the copy has all rows", rows_of(copy, folder) == rows_of(store, folder) != [])
         told = pair.ask("POST", "/backup", "*", body=str(copy).encode())
-        tally.check("a path that is taken", told.status == 409 and told.json() == {"refused": "taken"}, told.status, told.body)
+        tally.check("a path that is taken", told.status == 409
+                    and told.json() == {"refused": "taken"}, told.status, told.body)
         told = pair.ask("POST", "/backup", "*", body=str(folder / "absent" / "x.db").encode())
-        tally.check("a folder that is not there", told.status == 500 and told.json() == {"refused": "failed"}, told.status,
+        tally.check("a folder that is not there",
+                    told.status == 500 and told.json() == {"refused": "failed"}, told.status,
                     told.body)
-        for what, body in (("no path", b""), ("a line feed", b"/x\nreport"), ("a NUL", b"/x\0"), ("no UTF-8", b"/\xff"),
+        for what, body in (("no path", b""), ("a line feed", b"/x\nreport"), ("a NUL", b"/x\0"),
+                           ("no UTF-8", b"/\xff"),
                            ("DEL", b"/x\x7f")):
             told = pair.ask("POST", "/backup", "*", body=body)
             tally.check(f"a path with {what}", told.status == 400, told.status, told.body)
         for name in (None, "NORTH"):
             told = pair.ask("POST", "/backup", name, body=str(folder / "never.db").encode())
-            tally.check(f"a backup by {name}", told.status == 401 and not (folder / "never.db").exists(), told.status)
+            tally.check(f"a backup by {name}",
+                        told.status == 401 and not (folder / "never.db").exists(), told.status)
         pair.is_right(tally, "backup")
     with Serving(PROGRAM, "--config", CONFIGURATIONS / "hospitals.toml", "--store", copy,
                  has_console=True) as server, server.console() as desk:
         tally.check("the copy opens", desk.ask("report").startswith("NORTH studies 3 "))
     with Pair(folder) as pair:
         told = pair.ask("POST", "/backup", "*", body=str(folder / "none.db").encode())
-        tally.check("no store", told.status == 409 and told.json() == {"refused": "no store"}, told.status, told.body)
+        tally.check("no store", told.status == 409 and told.json() == {"refused": "no store"},
+                    told.status, told.body)
 
 
-def log(tally, folder):
+def log(tally: Tally, folder: pathlib.Path) -> None:
     path = folder / "log"
     with Pair(folder, "--log-file", path) as pair:
         pair.fill()
-        plays = [("GET", "/NORTH/rs/studies?PatientName=SECRET*", "NORTH", None, "NORTH /rs/studies 204"),
+        plays = [("GET", "/NORTH/rs/studies?PatientName=SECRET*", "NORTH", None,
+                  "NORTH /rs/studies 204"),
                  ("GET", "/NORTH/worklist", "NORTH", None, "NORTH /worklist 200"),
                  ("GET", "/NORTH/worklist", None, None, "NORTH /worklist 401"),
-                 ("POST", "/NORTH/worklist", "NORTH", entry_octets("SECRET"), "NORTH /worklist 201"),
+                 ("POST", "/NORTH/worklist", "NORTH", entry_octets("SECRET"),
+                  "NORTH /worklist 201"),
                  ("GET", "/SOUTH/counts", "SOUTH", None, "SOUTH /counts 200")]
         begin = len(path.read_bytes())
         for method, target, name, body, _ in plays:
@@ -139,17 +170,19 @@ def log(tally, folder):
         text = path.read_text()
         lines = [line for line in text.split("\n") if " - web " in line]
         for method, _, _, _, told in plays:
-            tally.check(f"the line of {method} {told}", any(re.fullmatch(rf"\S+Z - web {method} {re.escape(told)} ms \d+", line)
-                                                            for line in lines), lines)
+            tally.check(f"the line of {method} {told}",
+                        any(re.fullmatch(rf"\S+Z - web {method} {re.escape(told)} ms \d+", line)
+                            for line in lines), lines)
         pair.ask("GET", "/health")
         for key in pair.keys.values():
             tally.check("no key", key not in path.read_text())
         tally.check("no patient", not re.search("secret|doe|jane", text.lower()), text)
-        tally.check("the times of others stay", all(re.match(r"\d{4}-\d\d-\d\dT\d\d:\d\d:\d\d\.\d{3}Z ", line)
-                                                    for line in text.split("\n")[:-1]))
+        tally.check("the times of others stay",
+                    all(re.match(r"\d{4}-\d\d-\d\dT\d\d:\d\d:\d\d\.\d{3}Z ", line)
+                        for line in text.split("\n")[:-1]))
 
 
-def curl(tally, folder):
+def curl(tally: Tally, folder: pathlib.Path) -> None:
     if shutil.which("curl") is None:
         skip("curl", "it is not installed")
         return
@@ -157,8 +190,9 @@ def curl(tally, folder):
         pair.fill()
         base, bearer = f"http://{HOST}:{pair.port}", f"Authorization: Bearer {pair.keys['NORTH']}"
 
-        def run(*words):
-            done = subprocess.run(["curl", "-sS", "--max-time", "20", "-w", "\n%{http_code}", *map(str, words)],
+        def run(*words: str) -> tuple[int, bytes, bytes]:
+            done = subprocess.run(["curl", "-sS", "--max-time", "20", "-w", "\n%{http_code}",
+                                   *map(str, words)],
                                   capture_output=True, check=False)
             body, _, status = done.stdout.rpartition(b"\n")
             return int(status or 0), body, done.stderr
@@ -170,12 +204,15 @@ def curl(tally, folder):
         told = run("-H", bearer, "--data-binary", f"@{entry}", f"{base}/NORTH/worklist")
         tally.check("an entry", told[0] == 201, told)
         entry.write_bytes(entry_octets("U2", RequestedProcedureComments="x" * 60000))
-        told = run("-H", bearer, "-H", "Expect: 100-continue", "--data-binary", f"@{entry}", f"{base}/NORTH/worklist")
+        told = run("-H", bearer, "-H", "Expect: 100-continue", "--data-binary", f"@{entry}",
+                   f"{base}/NORTH/worklist")
         tally.check("an entry with 100-continue", told[0] == 201, told)
-        tally.check("it is withdrawn", run("-H", bearer, "-X", "DELETE", f"{base}/NORTH/worklist/U1")[0] == 204)
+        tally.check("it is withdrawn",
+                    run("-H", bearer, "-X", "DELETE", f"{base}/NORTH/worklist/U1")[0] == 204)
         tally.check("HTTP/1.0", run("-0", f"{base}/health")[:2] == (200, b"ok\n"))
         told = run("-I", f"{base}/health")
         tally.check("a HEAD ends", told[0] in (200, 405), told)
         tally.check("another name", run("-H", "Host: evil.example", f"{base}/health")[0] == 421)
-        told = run("-H", bearer, "-H", "Transfer-Encoding: chunked", "--data-binary", f"@{entry}", f"{base}/NORTH/worklist")
+        told = run("-H", bearer, "-H", "Transfer-Encoding: chunked", "--data-binary", f"@{entry}",
+                   f"{base}/NORTH/worklist")
         tally.check("chunks", told[0] == 501, told)

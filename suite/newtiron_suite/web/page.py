@@ -70,7 +70,7 @@ def files(tally: Tally) -> None:
 
 
 @contextlib.contextmanager
-def shown(folder: pathlib.Path, *words: object) -> Iterator[tuple[Pair, Browser]]:
+def shown(folder: pathlib.Path, *words: str | pathlib.Path) -> Iterator[tuple[Pair, Browser]]:
     """The program with three items in NORTH, and a browser whose clock is on their day."""
     if browsers.program() is None:
         raise LeftOut("Chromium is not installed")
@@ -295,7 +295,7 @@ PEOPLE = (("DOE^JANE", "40017", "0910", "CT", "CT1", "Abdomen"),
 
 def picture() -> None:
     """Makes the picture of the page that docs/GUIDE.md shows."""
-    with tempfile.TemporaryDirectory() as folder, Pair(folder) as pair, \
+    with tempfile.TemporaryDirectory() as folder, Pair(pathlib.Path(folder)) as pair, \
             Browser() as page_of:
         pair.play("open 1", f"associate 1 ARCHIVE CT1 {SERVED}")
         for at, (name, patient, time, modality, station, text) in enumerate(PEOPLE):

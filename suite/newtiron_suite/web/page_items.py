@@ -180,7 +180,8 @@ def changes(tally: Tally, pair: Pair, page_of: Browser) -> None:
 def lose_posts(page_of: Browser, count: int) -> None:
     """Lets the page's next requests by POST be lost."""
     page_of.run("window.realFetch ??= fetch; window.posts = 0; window.fetch = (path, more) => "
-                f"more.method === 'POST' && posts++ < {count} ? Promise.reject(new Error('lost')) : "
+                f"more.method === 'POST' && posts++ < {count} ? Promise.reject(new Error('lost')) "
+                ": "
                 "realFetch(path, more)")
 
 

@@ -1,89 +1,127 @@
 """Searches of each kind."""
+import pathlib
+
 from ..scenes import SERVED
+from ..tally import Tally
 from .common import HOSPITALS, Pair, store_line
 
 
-def hospitals(tally, folder):
+def hospitals(tally: Tally, folder: pathlib.Path) -> None:
     with Pair(folder) as pair:
         tally.check("both are filled alike", pair.fill())
         for name, (_, patient) in HOSPITALS.items():
             other = next(one for one in HOSPITALS if one != name)
-            for target in ("rs/studies", "rs/studies/1.2.0/series", "rs/studies/1.2.0/series/1.2.0.1/instances", "worklist",
+            for target in ("rs/studies", "rs/studies/1.2.0/series",
+                           "rs/studies/1.2.0/series/1.2.0.1/instances", "worklist",
                            "steps", "counts"):
                 pair.compare(tally, name, "GET", f"/{name}/{target}", name)
-                pair.compare(tally, f"{name} by the key of {other}", "GET", f"/{name}/{target}", other)
+                pair.compare(tally, f"{name} by the key of {other}", "GET",
+                             f"/{name}/{target}", other)
             told = pair.ask("GET", f"/{name}/rs/studies", name)
             names = {study["00100010"]["Value"][0]["Alphabetic"] for study in told.json()}
             uids = [study["0020000D"]["Value"][0] for study in told.json()]
-            tally.check(f"the studies of {name}", names == {patient} and uids == ["1.2.0", "1.2.1", "1.2.2"], names, uids)
+            tally.check(f"the studies of {name}",
+                        names == {patient} and uids == ["1.2.0", "1.2.1", "1.2.2"], names, uids)
             told = pair.ask("GET", f"/{name}/worklist", name)
             ids = [entry["00400100"]["Value"][0]["00400009"]["Value"][0] for entry in told.json()]
-            tally.check(f"the entries of {name}", ids == ["S2", "S3"] and patient in told.body.decode(), ids)
+            tally.check(f"the entries of {name}",
+                        ids == ["S2", "S3"] and patient in told.body.decode(), ids)
         told = pair.ask("GET", "/NORTH/counts", "NORTH")
-        tally.check("counts", told.json() == {"studies": {"kept": 3, "limit": 100}, "series": {"kept": 4},
+        tally.check("counts", told.json() == {"studies": {"kept": 3, "limit": 100},
+                                              "series": {"kept": 4},
                                               "images": {"kept": 5, "limit": 1000},
-                                              "entries": {"kept": 2, "limit": 100}, "steps": {"kept": 1, "limit": 100}},
+                                              "entries": {"kept": 2, "limit": 100},
+                                              "steps": {"kept": 1, "limit": 100}},
                     told.body)
         pair.play(store_line(2, "1.2.7.1.1", "1.2.7", PatientName="ROE^RICHARD"))
-        tally.check("the other's change is not seen", pair.ask("GET", "/NORTH/counts", "NORTH").body == told.body)
+        tally.check("the other's change is not seen",
+                    pair.ask("GET", "/NORTH/counts", "NORTH").body == told.body)
         pair.compare(tally, "its own is", "GET", "/SOUTH/counts", "SOUTH")
         pair.is_right(tally, "hospitals")
 
 
 SEARCHES = [
-    "rs/studies?PatientID=P1", "rs/studies?00100020=P1", "rs/studies?PatientName=doe%5Ejane", "rs/studies?PatientName=*JAN*",
-    "rs/studies?PatientName=D*&limit=1", "rs/studies?limit=2", "rs/studies?limit=2&offset=2", "rs/studies?offset=3",
-    "rs/studies?offset=1&limit=1", "rs/studies?limit=0", "rs/studies?limit=100000", "rs/studies?offset=18446744073709551615",
-    "rs/studies?StudyDate=20240702-", "rs/studies?StudyDate=20240701-20240702", "rs/studies?StudyDate=-20240701",
+    "rs/studies?PatientID=P1", "rs/studies?00100020=P1", "rs/studies?PatientName=doe%5Ejane",
+    "rs/studies?PatientName=*JAN*",
+    "rs/studies?PatientName=D*&limit=1", "rs/studies?limit=2", "rs/studies?limit=2&offset=2",
+    "rs/studies?offset=3",
+    "rs/studies?offset=1&limit=1", "rs/studies?limit=0", "rs/studies?limit=100000",
+    "rs/studies?offset=18446744073709551615",
+    "rs/studies?StudyDate=20240702-", "rs/studies?StudyDate=20240701-20240702",
+    "rs/studies?StudyDate=-20240701",
     "rs/studies?StudyDate=20240702&PatientID=P1", "rs/studies?StudyInstanceUID=1.2.0%5C1.2.2",
-    "rs/studies?AccessionNumber=A2", "rs/studies?StudyDescription=Head%20of%20NORTH", "rs/studies?ModalitiesInStudy=MR",
-    "rs/studies?includefield=all", "rs/studies?includefield=00081030&includefield=StudyID", "rs/studies?fuzzymatching=true",
-    "rs/studies?fuzzymatching=false&PatientID=P0", "rs/studies?PatientName=NOBODY", "rs/studies?PatientID=p1",
-    "rs/studies?PatientID=P1&&", "rs/studies?", "rs/studies?PatientID=P1&PatientID=P2", "rs/studies?PatientName=",
-    "rs/studies?Rows=512", "rs/studies?PatientName=%00", "rs/studies?PatientName=%ff*", "rs/studies?PatientID=P+1",
+    "rs/studies?AccessionNumber=A2", "rs/studies?StudyDescription=Head%20of%20NORTH",
+    "rs/studies?ModalitiesInStudy=MR",
+    "rs/studies?includefield=all", "rs/studies?includefield=00081030&includefield=StudyID",
+    "rs/studies?fuzzymatching=true",
+    "rs/studies?fuzzymatching=false&PatientID=P0", "rs/studies?PatientName=NOBODY",
+    "rs/studies?PatientID=p1",
+    "rs/studies?PatientID=P1&&", "rs/studies?", "rs/studies?PatientID=P1&PatientID=P2",
+    "rs/studies?PatientName=",
+    "rs/studies?Rows=512", "rs/studies?PatientName=%00", "rs/studies?PatientName=%ff*",
+    "rs/studies?PatientID=P+1",
     # refused
-    "rs/studies?Patient=P1", "rs/studies?PatientID", "rs/studies?patientid=P1", "rs/studies?limit=x", "rs/studies?limit=-1",
-    "rs/studies?offset=1.5", "rs/studies?limit=", "rs/studies?=P1", "rs/studies?StudyDate=yesterday",
-    "rs/studies?StudyDate=20240230", "rs/studies?Rows=x", "rs/studies?0010002=P1", "rs/studies?PatientID=P1&x",
-    "rs/studies?limit=18446744073709551616", "rs/studies?ScheduledProcedureStepSequence=x", "rs/studies?%50atientID=P1",
+    "rs/studies?Patient=P1", "rs/studies?PatientID", "rs/studies?patientid=P1",
+    "rs/studies?limit=x", "rs/studies?limit=-1",
+    "rs/studies?offset=1.5", "rs/studies?limit=", "rs/studies?=P1",
+    "rs/studies?StudyDate=yesterday",
+    "rs/studies?StudyDate=20240230", "rs/studies?Rows=x", "rs/studies?0010002=P1",
+    "rs/studies?PatientID=P1&x",
+    "rs/studies?limit=18446744073709551616", "rs/studies?ScheduledProcedureStepSequence=x",
+    "rs/studies?%50atientID=P1",
     # below
-    "rs/studies/1.2.0/series", "rs/studies/1.2.0/series?Modality=MR", "rs/studies/1.2.0/series?SeriesNumber=1",
-    "rs/studies/1.2.0/series?limit=1&offset=1", "rs/studies/1.2.99/series", "rs/studies/nothing/series",
+    "rs/studies/1.2.0/series", "rs/studies/1.2.0/series?Modality=MR",
+    "rs/studies/1.2.0/series?SeriesNumber=1",
+    "rs/studies/1.2.0/series?limit=1&offset=1", "rs/studies/1.2.99/series",
+    "rs/studies/nothing/series",
     "rs/studies/1.2.0/series?StudyInstanceUID=1.2.1", "rs/studies/1.2.0/series/1.2.0.1/instances",
-    "rs/studies/1.2.0/series/1.2.0.1/instances?InstanceNumber=2", "rs/studies/1.2.0/series/1.2.1.1/instances",
-    "rs/studies/1.2.0/series/1.2.0.1/instances?limit=1", "rs/series", "rs/instances", "rs/series?Modality=CT",
+    "rs/studies/1.2.0/series/1.2.0.1/instances?InstanceNumber=2",
+    "rs/studies/1.2.0/series/1.2.1.1/instances",
+    "rs/studies/1.2.0/series/1.2.0.1/instances?limit=1", "rs/series", "rs/instances",
+    "rs/series?Modality=CT",
     # the worklist and steps
-    "worklist", "worklist?Modality=CT", "worklist?Modality=MR", "worklist?limit=1", "worklist?offset=1",
+    "worklist", "worklist?Modality=CT", "worklist?Modality=MR", "worklist?limit=1",
+    "worklist?offset=1",
     "worklist?ScheduledProcedureStepID=S3", "worklist?PatientName=*jane*",
-    "worklist?ScheduledProcedureStepStartDate=20240705", "worklist?ScheduledProcedureStepStartDate=20240706-",
-    "worklist?AccessionNumber=A3", "worklist?ScheduledProcedureStepStartDate=x", "worklist?x=1", "steps", "steps?limit=1",
+    "worklist?ScheduledProcedureStepStartDate=20240705",
+    "worklist?ScheduledProcedureStepStartDate=20240706-",
+    "worklist?AccessionNumber=A3", "worklist?ScheduledProcedureStepStartDate=x", "worklist?x=1",
+    "steps", "steps?limit=1",
     "steps?offset=1", "steps?PatientID=P1", "steps?limit=x", "counts",
 ]
 
 
-def searches(tally, folder):
+def searches(tally: Tally, folder: pathlib.Path) -> None:
     with Pair(folder) as pair:
         tally.check("both are filled alike", pair.fill())
         for target in SEARCHES:
             pair.compare(tally, "a search", "GET", f"/NORTH/{target}", "NORTH")
         told = pair.ask("GET", "/NORTH/rs/studies?PatientID=P1", "NORTH")
-        tally.check("a study, by hand", told.status == 200 and told.kind() == "application/dicom+json" and
-                    [(study["0020000D"]["Value"], study["00081030"]["Value"], study["00201206"]["Value"])
+        tally.check("a study, by hand",
+                    told.status == 200 and told.kind() == "application/dicom+json" and
+                    [(study["0020000D"]["Value"], study["00081030"]["Value"],
+                      study["00201206"]["Value"])
                      for study in told.json()] ==
                     [(["1.2.1"], ["Head of NORTH"], ["1"])], told.body)
         told = pair.ask("GET", "/NORTH/rs/studies?PatientName=NOBODY", "NORTH")
-        tally.check("nothing is found, by hand", (told.status, told.body, told.fields.get("content-type")) == (204, b"", None),
+        tally.check("nothing is found, by hand",
+                    (told.status, told.body, told.fields.get("content-type")) == (204, b"", None),
                     told.head)
         told = pair.ask("GET", "/NORTH/rs/studies?Nothing=1", "NORTH")
-        tally.check("a word that is none, by hand", told.status == 400 and told.json() == {"refused": "keyword Nothing=1"},
+        tally.check("a word that is none, by hand",
+                    told.status == 400 and told.json() == {"refused": "keyword Nothing=1"},
                     told.body)
         told = pair.ask("GET", "/NORTH/rs/studies?x%22%5C=1", "NORTH")
-        tally.check("a refusal that quotes is JSON", told.status == 400 and isinstance(told.json(), dict), told.body)
-        tally.check("a quote in a query", (told := pair.ask("GET", "/NORTH/rs/studies?x\"\\=1", "NORTH")).status == 400 and
+        tally.check("a refusal that quotes is JSON",
+                    told.status == 400 and isinstance(told.json(), dict), told.body)
+        tally.check("a quote in a query",
+                    (told := pair.ask("GET", "/NORTH/rs/studies?x\"\\=1", "NORTH")).status == 400
+                    and
                     isinstance(told.json(), dict), told.status, told.body)
         with pair.connect() as speaker:
-            told = [speaker.ask("GET", f"/NORTH/{target}", pair.keys["NORTH"]).status for target in SEARCHES[:9]]
-            tally.check("many on one connection", told == [200] * 7 + [204, 200], told)
+            each = [speaker.ask("GET", f"/NORTH/{target}", pair.keys["NORTH"]).status
+                    for target in SEARCHES[:9]]
+            tally.check("many on one connection", each == [200] * 7 + [204, 200], each)
         forms(tally, pair)
         long_page(tally, pair)
         pair.is_right(tally, "searches")
@@ -91,51 +129,64 @@ def searches(tally, folder):
 
 
 # What an Accept says, of which the first ones take DICOM JSON.
-ACCEPTS = [
-    [], ["*/*"], ["application/*"], ["application/dicom+json"], ["Application/DICOM+JSON"], ["application/json"],
+ACCEPTS: list[list[str]] = [
+    [], ["*/*"], ["application/*"], ["application/dicom+json"], ["Application/DICOM+JSON"],
+    ["application/json"],
     ["text/html, application/json;q=0.5"], ["application/dicom+xml", "application/dicom+json"],
     ["multipart/related; type=\"application/dicom+xml\"", "*/*;q=0.1"],
-    ["application/dicom+xml"], ["multipart/related; type=\"application/dicom+xml\""], ["text/html"], ["text/*", "image/png"],
+    ["application/dicom+xml"], ["multipart/related; type=\"application/dicom+xml\""], ["text/html"],
+    ["text/*", "image/png"],
     ["application/dicom+jsonx"],
 ]
 
 
-def forms(tally, pair):
-    """The form of answers that is asked for, and the warning of fuzzy matching (PS3.18 sections 8.3.4 and 10.6)."""
+def forms(tally: Tally, pair: Pair) -> None:
+    """The form of answers that is asked for, and the warning of fuzzy matching (PS3.18 sections
+    8.3.4 and 10.6)."""
     for accepts in ACCEPTS:
         given = [f"Accept: {accept}" for accept in accepts]
-        for target in ("rs/studies?PatientID=P1", "rs/studies?PatientName=NOBODY", "worklist?Modality=MR", "steps", "counts"):
+        for target in ("rs/studies?PatientID=P1", "rs/studies?PatientName=NOBODY",
+                       "worklist?Modality=MR", "steps", "counts"):
             told = pair.ask("GET", f"/NORTH/{target}", "NORTH", fields=given)
-            wanted = pair.expected("GET", f"/NORTH/{target}", "NORTH", fields=[f"Accept: {', '.join(accepts)}"] if accepts else ())
-            tally.check(f"{target} with {given}", (told.status, told.body) == (wanted.status, wanted.body) and not told.faults,
+            wanted = pair.expected("GET", f"/NORTH/{target}", "NORTH",
+                                   fields=[f"Accept: {', '.join(accepts)}"] if accepts else ())
+            tally.check(f"{target} with {given}",
+                        (told.status, told.body) == (wanted.status, wanted.body)
+                        and not told.faults,
                         told.head, wanted.status)
-    for target in ("rs/studies?fuzzymatching=true&PatientName=DOE*", "rs/studies?PatientName=NOBODY&fuzzymatching=true",
+    for target in ("rs/studies?fuzzymatching=true&PatientName=DOE*",
+                   "rs/studies?PatientName=NOBODY&fuzzymatching=true",
                    "rs/studies?fuzzymatching=false", "rs/studies?fuzzymatching=true&Nothing=1"):
         told = pair.compare(tally, "fuzzy matching", "GET", f"/NORTH/{target}", "NORTH")
         is_warned = "fuzzymatching=true" in target and "Nothing" not in target
         tally.check(f"a warning of {target}", ("warning" in told.fields) == is_warned, told.fields)
 
 
-def long_page(tally, pair, count=97):
+def long_page(tally: Tally, pair: Pair, count: int = 97) -> None:
     """A page has 100 answers where nothing else is said."""
     for at in range(3, 3 + count):
-        pair.play(store_line(1, f"1.2.{at}.1.1", f"1.2.{at}", PatientName=f"LONG^{at}", StudyDescription="x" * 60))
-    tally.check("a hundred studies", len(pair.ask("GET", "/NORTH/rs/studies", "NORTH").json()) == 100)
+        pair.play(store_line(1, f"1.2.{at}.1.1", f"1.2.{at}", PatientName=f"LONG^{at}",
+                             StudyDescription="x" * 60))
+    tally.check("a hundred studies",
+                len(pair.ask("GET", "/NORTH/rs/studies", "NORTH").json()) == 100)
     for target in ("rs/studies", "rs/studies?limit=1000", "rs/studies?PatientName=LONG*&offset=90",
                    "rs/studies?limit=100&offset=100"):
         pair.compare(tally, "a long page", "GET", f"/NORTH/{target}", "NORTH")
 
 
-def names(tally, folder):
+def names(tally: Tally, folder: pathlib.Path) -> None:
     """Text of any octets is shown as JSON that is valid."""
     with Pair(folder) as pair:
         pair.play("open 1", f"associate 1 ARCHIVE CT1 {SERVED}",
-                  store_line(1, "1.2.1.1.1", "1.2.1", PatientName='0x3c696d67207372633d783e225c5c6e'),
+                  store_line(1, "1.2.1.1.1", "1.2.1",
+                             PatientName='0x3c696d67207372633d783e225c5c6e'),
                   store_line(1, "1.2.2.1.1", "1.2.2", PatientName="0x" + "Zoë^Ü=山田".encode().hex(),
                              SpecificCharacterSet="ISO_IR 192"),
-                  store_line(1, "1.2.3.1.1", "1.2.3", PatientName="0x4df36c6c6572", SpecificCharacterSet="ISO_IR 100"),
+                  store_line(1, "1.2.3.1.1", "1.2.3", PatientName="0x4df36c6c6572",
+                             SpecificCharacterSet="ISO_IR 100"),
                   store_line(1, "1.2.4.1.1", "1.2.4", PatientName="0x01021b7f"),
                   store_line(1, "1.2.5.1.1", "1.2.5", PatientName="</script>"))
         told = pair.compare(tally, "names", "GET", "/NORTH/rs/studies", "NORTH")
         tally.check("names are JSON", len(told.json()) == 5, told.body)
-        pair.compare(tally, "a name in UTF-8", "GET", "/NORTH/rs/studies?PatientName=Zo%C3%AB*", "NORTH")
+        pair.compare(tally, "a name in UTF-8", "GET", "/NORTH/rs/studies?PatientName=Zo%C3%AB*",
+                     "NORTH")

@@ -1,28 +1,32 @@
 """The web front, served otherwise."""
+from collections.abc import Callable
 from pathlib import Path
+from typing import Any
 
 from ..model import web, web_serving
+from ..model.services import Records
+from ..model.web import Answer
 
 
-def of_front(method, kind=web.Front):
+def of_front(method: str, kind: Any = web.Front) -> Any:
     """A decorator for what the web front does in place of a method; it is given the right one."""
-    def decorate(wrong):
+    def decorate(wrong: Callable[..., Any]) -> None:
         right = getattr(kind, method)
         setattr(kind, method, lambda self, *words: wrong(self, right, *words))
     return decorate
 
 
-def web_key_of_anybody():
+def web_key_of_anybody() -> None:
     """Each key opens every name."""
     @of_front("is_opened", web_serving.Keyed)
-    def is_opened(self, right, _, fields):
+    def is_opened(self: Any, right: Callable[..., Any], _: object, fields: Any) -> bool:
         return any(right(self, name, fields) for name in (*self.institutions, "*"))
 
 
-def web_rows_of_the_first():
+def web_rows_of_the_first() -> None:
     """What is asked of any institution is answered of the first."""
     @of_front("answer")
-    def answer(self, right, *words):
+    def answer(self: Any, right: Callable[..., Any], *words: Any) -> Any:
         kept, first = self.institutions, next(iter(self.institutions.values()))
         self.institutions = dict.fromkeys(kept, first)
         try:
@@ -31,20 +35,20 @@ def web_rows_of_the_first():
             self.institutions = kept
 
 
-def web_pages_of(most):
+def web_pages_of(most: str) -> None:
     web.USUAL_PAGE = int(most)
 
 
-def web_refuses_as(status):
+def web_refuses_as(status: str) -> None:
     """Orders that are refused have this status."""
     web.REFUSED_ORDERS = dict.fromkeys(web.REFUSED_ORDERS, int(status))
 
 
-def web_look_withdraws():
+def web_look_withdraws() -> None:
     """A look at the worklist takes an entry away."""
     right = web.answered
 
-    def answered(records, subject, *words):
+    def answered(records: Records, subject: str, *words: Any) -> Answer:
         told = right(records, subject, *words)
         if subject == "worklist" and records.entries:
             records.entries.popitem()
@@ -53,67 +57,68 @@ def web_look_withdraws():
     web.answered = answered
 
 
-def web_takes_any_method():
+def web_takes_any_method() -> None:
     """An unknown method is GET."""
     @of_front("answer")
-    def answer(self, right, method, *words):
+    def answer(self: Any, right: Callable[..., Any], method: str, *words: Any) -> Any:
         return right(self, method if method in ("GET", "POST", "DELETE") else "GET", *words)
 
 
-def web_takes_any_host():
+def web_takes_any_host() -> None:
     @of_front("answer")
-    def answer(self, right, method, target, fields, *words):
+    def answer(self: Any, right: Callable[..., Any], method: str, target: Any, fields: Any,
+               *words: Any) -> Any:
         return right(self, method, target, {**fields, "host": "localhost", "origin": None}, *words)
 
 
-def web_takes_two_hosts():
+def web_takes_two_hosts() -> None:
     web_serving.SINGLE.discard("host")
 
 
-def web_sends_a_body_to_head():
+def web_sends_a_body_to_head() -> None:
     right = web_serving.spelled
     web_serving.spelled = lambda method, *words: right("GET", *words)
 
 
-def web_stays_open():
+def web_stays_open() -> None:
     """No connection is closed by what it was answered."""
     @of_front("answer_next", web_serving.WebService)
-    def answer_next(self, right, caller):
+    def answer_next(self: Any, right: Callable[..., Any], caller: Any) -> Any:
         told = right(self, caller)
         caller.is_over = False
         return told
 
 
-def web_paths_go_up():
+def web_paths_go_up() -> None:
     """Segments of paths may be anything."""
     web.is_plain = lambda path: True
 
 
-def web_bids_anybody_go_on():
+def web_bids_anybody_go_on() -> None:
     """A body is awaited whatever its head says."""
     @of_front("judged", web_serving.Keyed)
-    def judged(self, right, *words):
+    def judged(self: Any, right: Callable[..., Any], *words: Any) -> Any:
         why = right(self, *words)
         return why if why and why.status not in (401, 403) else None
 
 
-def web_gives_what_is_not_accepted():
+def web_gives_what_is_not_accepted() -> None:
     web.ranges_in = lambda fields: set()
 
 
-def web_waits_for_one():
+def web_waits_for_one() -> None:
     """Others wait until the first connection that is held has ended."""
     @of_front("watched", web_serving.WebService)
-    def watched(self, right):
+    def watched(self: Any, right: Callable[..., Any]) -> Any:
         return list(right(self))[:2]
 
 
-def web_closes_each(number):
+def web_closes_each(number: str) -> None:
     """Of so many connections one is closed as it comes."""
     came = []
 
     @of_front("turn", web_serving.WebService)
-    def turn(self, right, *words):
+    def turn(self: Any, right: Callable[..., Any], *words: Any) -> None:
         held = list(self.callers)
         right(self, *words)
         for caller in [one for one in self.callers if one not in held]:
@@ -122,31 +127,33 @@ def web_closes_each(number):
                 self.leave(caller)
 
 
-def web_counts_no(outcome):
+def web_counts_no(outcome: str) -> None:
     @of_front("count_sent", web_serving.Counters)
-    def count_sent(self, right, octets):
+    def count_sent(self: Any, right: Callable[..., Any], octets: bytes) -> None:
         right(self, octets)
         del self.outcomes[outcome]
 
 
-def web_copies_nothing():
+def web_copies_nothing() -> None:
     """A backup is an empty file."""
     @of_front("copied", web_serving.WebService)
-    def copied(self, right, body):
+    def copied(self: Any, right: Callable[..., Any], body: bytes) -> Any:
         told = right(self, body)
         if told.status == 200:
             Path(body.decode()).write_bytes(b"")
         return told
 
 
-def web_page_with(old, new):
+def web_page_with(old: str, new: str) -> None:
     """The files of the page have other words."""
     @of_front("answer", web_serving.WebService)
-    def answer(self, right, request):
+    def answer(self: Any, right: Callable[..., Any], request: Any) -> Any:
         told = right(self, request)
-        told.body = told.body.replace(old.encode(), new.encode()) if request.target in web_serving.FILES else told.body
+        told.body = (told.body.replace(old.encode(),
+                                      new.encode()) if request.target in web_serving.FILES
+                     else told.body)
         return told
 
 
-def web_without(field):
+def web_without(field: str) -> None:
     del web_serving.FIXED[field]
