@@ -1,22 +1,20 @@
 //! Rows in a file of the machine.
-use crate::connections::HostTables;
+use crate::connections::{FilesAt, HostTables};
 use dq_list::Listed;
 use dq_tables::{Change, Choice, Kind, Row, TableFault, Tables};
-use sqlite::Wary;
 use std::alloc::Global;
 
-/// Rows in files of the machine, whatever these held. It is a type of its own because the tables are
-/// generic in what a connection is over: each call of theirs proves anew that files are such a thing,
-/// and what stands on this type need not.
+/// Rows in files of the machine. It is a type of its own because the tables are generic in a connection's
+/// base: each call of theirs proves anew that files are such a base, and a caller of this type need not.
 #[derive(Drop)]
-pub struct RowsInFile {
-    pub tables: HostTables<Wary>,
+pub struct RowsInFile<S: FilesAt> {
+    pub tables: HostTables<S>,
 }
 
-impl Tables for RowsInFile {
+impl<S: FilesAt> Tables for RowsInFile<S> {
     ghost use Rattle.dq_sql.specs.Kept.{kept_sound, left_sound};
 
-    ghost state = { λ t. ⟦<HostTables<Wary> as Tables>⟧.state t.tables };
+    ghost state = { λ t. ⟦<HostTables<S> as Tables>⟧.state t.tables };
 
     ghost sound = { λ t. kept_sound _ _ t.tables.keeps };
 

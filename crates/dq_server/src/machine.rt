@@ -1,22 +1,23 @@
 //! What the program needs of the machine.
 use dq_keepers::{
-    CopyFault, RowsInFile, RowsInMemory, back_up, close_store, copy_store, create_store,
+    CopyFault, FilesAt, RowsInFile, RowsInMemory, back_up, close_store, copy_store, create_store,
     migrate_store, open_store,
 };
 use dq_program::{Host, Stores, Unclosed, Uncopied, Unkept};
 use dq_sql::{MigrateFault, StoreFault};
 use dq_tables::Tables;
-use sqlite::{FileFrom, Wary};
+use sqlite::FileFrom;
 use sqlite_disk::Disk;
 use std::alloc::{AllocError, Global};
+use std::marker::PhantomData;
 
-/// The machine that the program runs on.
-#[derive(Clone, Copy)]
-pub struct Machine<'a> {
+/// The machine that the program runs on. `S` stands for what the files of a store on it hold.
+pub struct Machine<'a, S> {
     pub rt: &'a HostRuntime,
+    pub stored: PhantomData<S>,
 }
 
-impl Alloc for Machine<'_> {
+impl<S> Alloc for Machine<'_, S> {
     type A = Global;
 
     fn alloc(&self) -> Global {
@@ -24,7 +25,7 @@ impl Alloc for Machine<'_> {
     }
 }
 
-impl Host for Machine<'_> {
+impl<S> Host for Machine<'_, S> {
     fn runtime(&self) -> &HostRuntime {
         self.rt
     }
@@ -56,24 +57,28 @@ fn uncopied(fault: CopyFault) -> Uncopied {
     }
 }
 
-impl Stores for Machine<'_> {
-    ghost use Rattle.std.specs.Prelude.{None};
+impl<S: FilesAt> Stores for Machine<'_, S> {
+    ghost use Rattle.std.specs.Prelude.{◌≡◌, None};
+    ghost use Rattle.sqlite_wal.specs.Files.{image_at};
     ghost use Rattle.dq_keepers.specs.Closing.{IsClosed};
+    ghost use Rattle.dq_keepers.specs.Contents.{AreCopied, AreMigrated};
     ghost use Rattle.dq_keepers.proofs.Honest.{rows_in_memory_are_honest};
 
     type Memory = RowsInMemory;
 
-    type File = RowsInFile;
+    type File = RowsInFile<S>;
 
-    // Known here is only what holds whatever a disk does. What files hold is known as far as their
-    // disk returns what was written, which the clauses of `dq_keepers` say.
+    // Known is only what holds whatever a disk does. What files hold is known as far as their disk
+    // returns what was written: `open_store` says it.
     ghost stored = { λ _ _. None };
 
-    ghost migrated = { λ _ _. None };
+    ghost migrated = { λ _ from kept. from ≡ S.path
+        → AreMigrated ⟦<FileFrom<S> as Disk>⟧ (image_at S.Start) kept };
 
-    ghost copied = { λ _ _ _. None };
+    ghost copied = { λ _ from only kept. from ≡ S.path
+        → AreCopied ⟦<FileFrom<S> as Disk>⟧ (image_at S.Start) only kept };
 
-    ghost closed = { λ _ rows. IsClosed ⟦<FileFrom<Wary> as Disk>⟧ rows };
+    ghost closed = { λ _ rows. IsClosed ⟦<FileFrom<S> as Disk>⟧ rows };
 
     fn memory(&self, alloc: Global) -> Result<Self::Memory, Unkept> {
         match RowsInMemory::new(alloc) {
@@ -110,7 +115,7 @@ impl Stores for Machine<'_> {
         to: &str,
         only: &[&str],
     ) -> Result<Result<u64, Unclosed>, Unkept> {
-        match copy_store::<Wary>(self.rt, alloc, from, to, only) {
+        match copy_store::<S>(self.rt, alloc, from, to, only) {
             Ok(Ok(count)) => Ok(Ok(count)),
             Ok(Err(_)) => Ok(Err(Unclosed)),
             Err(fault) => Err(unkept(fault)),
