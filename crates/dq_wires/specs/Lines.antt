@@ -1,10 +1,15 @@
 -- Which lines of a log a note of the server leads to.
-use Rattle.std.specs.Prelude.{Bool, true, false, if◌then◌else◌, Option, None}
+use Rattle.std.specs.Prelude.{◌≡◌, Bool, true, false, if◌then◌else◌, Option, None}
 use Rattle.dq_assoc.specs.declared.classes.Service.{Service}
 use Rattle.dq_assoc.specs.declared.classes.Service.TheVariants.{StudyRootFind, WorklistFind}
 use Rattle.dq_core.specs.declared.notes.Noted.{Noted}
 use Rattle.dq_core.specs.declared.notes.Noted.TheVariants.{Accepted, Rejected, Aborted, Released, Ended, Served}
 use Rattle.dq_wires.specs.declared.watched.Opened.{Opened}
+use Rattle.dq_wires.specs.declared.watched.Watched.{Watched}
+
+-- a connection that is not gone
+abbrev pub IsWatched : Watched → Type 0
+IsWatched watched = watched.is_shut ≡ false
 
 abbrev pub is_search : Service → Bool
 is_search StudyRootFind = true

@@ -1,6 +1,7 @@
 //! A log of connections and their associations.
 ghost use Rattle.std.specs.Prelude.{◌≡◌};
-ghost use Rattle.dq_wires.specs.Lines.{has_line};
+ghost use Rattle.std.specs.List.{All};
+ghost use Rattle.dq_wires.specs.Lines.{IsWatched, has_line};
 
 use crate::given_up::GivenUp;
 use crate::log_line::{LineContent, LogLine};
@@ -109,8 +110,11 @@ impl<L: Write + Drop> AssociationLog<L> {
         }
     }
 
-    /// Tells the notes of a turn, which began when the clock was last read.
-    pub fn tell(&mut self, notes: &Notes, clock: &impl Clock) {
+    /// Tells the notes of a turn, which began when the clock was last read. Afterwards no connection is
+    /// remembered that is gone.
+    pub fn tell(&mut self, notes: &Notes, clock: &impl Clock)
+        ensures { All IsWatched self.new.watched.items }
+    {
         let begun = self.time;
         self.read_clock(clock);
         let milliseconds = milliseconds_between(begun, self.time);
@@ -118,6 +122,13 @@ impl<L: Write + Drop> AssociationLog<L> {
             self.tell_note(note, milliseconds);
         }
         self.lose(notes.lost);
+        self.forget_shut();
+    }
+
+    // Forgets the connections that are gone.
+    fn forget_shut(&mut self)
+        ensures { All IsWatched self.new.watched.items }
+    {
         self.watched.retain(|watched| !watched.is_shut);
     }
 

@@ -1,5 +1,7 @@
 //! Wires over sockets.
-ghost use Rattle.std.specs.Prelude.{◌≡◌};
+ghost use Rattle.std.specs.Prelude.{◌≡◌, ◌≤◌, length, IfOk};
+ghost use Rattle.dq_wires.specs.Logs.{IfGot};
+ghost use Rattle.dq_wires.specs.Places.{KeepsOthers};
 
 use crate::calls::{ReadTurn, WireFault};
 use crate::given_up::{GivenUp, GivesUp, Limits, Reason};
@@ -111,7 +113,9 @@ impl SocketWires {
 
     /// Gives up connections from now on as these limits say, and at first none. Time is counted from
     /// rest to rest.
-    pub fn set_limits(&mut self, limits: Limits) {
+    pub fn set_limits(&mut self, limits: Limits)
+        ensures { self.new.limits ≡ limits }
+    {
         self.limits = limits;
     }
 
@@ -211,7 +215,8 @@ impl SocketWires {
 
     // Whether reads have taken long since the first one after a rest.
     fn is_long(&mut self) -> bool
-        ensures { self.new.failed_accepts ≡ self.old.failed_accepts }
+        ensures failed { self.new.failed_accepts ≡ self.old.failed_accepts }
+        ensures lines { self.new.lines ≡ self.old.lines }
     {
         let Ok(now) = Instant::now(&self.clock) else {
             return false;
@@ -225,7 +230,8 @@ impl SocketWires {
     // the same titles: to one that was passed over more often, and where reads have taken long also to
     // one that was read.
     fn gives_way(&mut self, place: usize) -> bool
-        ensures { self.new.failed_accepts ≡ self.old.failed_accepts }
+        ensures failed { self.new.failed_accepts ≡ self.old.failed_accepts }
+        ensures others { KeepsOthers place self.old.lines.items self.new.lines.items }
     {
         match self.lines.get(place) {
             Some(Some(line)) if line.is_waiting() && line.peer().is_some() => {}
@@ -302,6 +308,7 @@ fn is_passing(error: &io::Error) -> bool {
     }
 }
 
+// A call at a place is one of the connection there: the others stay as they are.
 impl Wires for SocketWires {
     ghost use Rattle.std.specs.Prelude.{None};
 
@@ -338,7 +345,11 @@ impl Wires for SocketWires {
         }
     }
 
-    fn read(&mut self, place: usize, buffer: &mut [u8]) -> Result<ReadTurn, WireFault> {
+    fn read(&mut self, place: usize, buffer: &mut [u8]) -> Result<ReadTurn, WireFault>
+        ensures bound { IfGot result (λ count. count ≤ length buffer.old) }
+        ensures failed { self.new.failed_accepts ≡ self.old.failed_accepts }
+        ensures others { KeepsOthers place self.old.lines.items self.new.lines.items }
+    {
         if self.gives_way(place) {
             return Ok(ReadTurn::Nothing);
         }
@@ -354,7 +365,11 @@ impl Wires for SocketWires {
         }
     }
 
-    fn write(&mut self, place: usize, octets: &[u8]) -> Result<usize, WireFault> {
+    fn write(&mut self, place: usize, octets: &[u8]) -> Result<usize, WireFault>
+        ensures bound { IfOk result (λ count. count ≤ length octets.now) }
+        ensures failed { self.new.failed_accepts ≡ self.old.failed_accepts }
+        ensures others { KeepsOthers place self.old.lines.items self.new.lines.items }
+    {
         let Some(Some(line)) = self.lines.get_mut(place) else {
             return Err(WireFault);
         };
@@ -367,7 +382,10 @@ impl Wires for SocketWires {
         }
     }
 
-    fn shut(&mut self, place: usize) -> Result<(), WireFault> {
+    fn shut(&mut self, place: usize) -> Result<(), WireFault>
+        ensures failed { self.new.failed_accepts ≡ self.old.failed_accepts }
+        ensures others { KeepsOthers place self.old.lines.items self.new.lines.items }
+    {
         let Some(slot) = self.lines.get_mut(place) else {
             return Err(WireFault);
         };
