@@ -1,5 +1,5 @@
 -- What is noted for a log of the values in the identifier of a C-FIND.
-use Rattle.std.specs.Prelude.{ℕ, List, [], ◌∷◌, take, Option, Some, None}
+use Rattle.std.specs.Prelude.{◌≡◌, ◌⊎◌, ℕ, List, [], ◌∷◌, ◌++◌, take, Option, Some, None}
 use Rattle.dq_vr.specs.declared.Tag.{Tag}
 use Rattle.dq_vr.specs.Tags.{modality, modalities_in_study, study_date}
 use Rattle.dq_vr.specs.Tags.{scheduled_procedure_step_sequence, scheduled_station_ae_title, scheduled_procedure_step_start_date}
@@ -8,6 +8,8 @@ use Rattle.dq_dataset.specs.Values.{element_at, element_octets}
 use Rattle.dq_tables.specs.Keys.{sole_item_at}
 use Rattle.dq_assoc.specs.declared.classes.Service.{Service}
 use Rattle.dq_assoc.specs.declared.classes.Service.TheVariants.{WorklistFind}
+use Rattle.dq_core.specs.declared.notes.Note.{Note}
+use Rattle.dq_core.specs.declared.notes.Noted.{Noted}
 use Rattle.dq_core.specs.declared.notes.Sought.{Sought}
 
 -- so many octets of a value
@@ -56,3 +58,16 @@ asked_of_studies d = record {
 abbrev pub asked_by : Service → ElementList → Asked
 asked_by WorklistFind d = asked_of_entries d
 asked_by _ d = asked_of_studies d
+
+-- What is noted of an identifier, if there is one: of its values these alone.
+abbrev pub IsSoughtBy : Service → Option ElementList → Option Sought → Type 0
+IsSoughtBy service None None = Unit {0}
+IsSoughtBy service None (Some sought) = ⊥
+IsSoughtBy service (Some d) None = ⊥
+IsSoughtBy service (Some d) (Some sought) = values_asked sought ≡ asked_by service d
+
+-- A note of the connection with a number is the last, unless none is kept or there is no memory for
+-- it.
+abbrev pub IsAdded : ℕ → Noted → List Note → List Note → Type 0
+IsAdded number noted old new =
+    (new ≡ old) ⊎ (new ≡ old ++ record { number = number; noted = noted } ∷ [])

@@ -1,9 +1,12 @@
 //! Notes of what is served, for a log. Of a data set they hold nothing but the tags of a query's keys,
 //! and what it asks of the modality, the station and the day.
-ghost use Rattle.std.specs.Prelude.{◌≡◌, take, IfOk};
+ghost use Rattle.std.specs.Prelude.{◌≡◌, ◌⊎◌, ℕ, Option, take, IfOk, MatchOption};
 ghost use Rattle.std.specs.Option.{option_copied};
 ghost use Rattle.dq_dataset.specs.Values.{element_octets};
-ghost use Rattle.dq_core.specs.Notes.{noted_most, noted_octets, values_asked, asked_of_entries, asked_of_studies, asked_by};
+ghost use Rattle.dq_core.specs.declared.notes.Noted.TheVariants.{Accepted, Ended, Served};
+ghost use Rattle.dq_core.specs.declared.notes.Sought.{Sought};
+ghost use Rattle.dq_core.specs.declared.notes.Titles.{Titles};
+ghost use Rattle.dq_core.specs.Notes.{noted_most, noted_octets, values_asked, asked_of_entries, asked_of_studies, asked_by, IsSoughtBy, IsAdded};
 
 use dq_assoc::{Agreement, PeerLimit, Service, Step};
 use dq_dataset::{DataSet, Element, Value};
@@ -124,11 +127,16 @@ impl Notes {
     }
 
     /// Notes are of the connection with a number from now on.
-    pub(crate) fn turn_to(&mut self, number: u64) {
+    pub(crate) fn turn_to(&mut self, number: u64)
+        ensures number { self.new.number ≡ number }
+        ensures list { self.new.list ≡ self.old.list }
+    {
         self.number = number;
     }
 
-    fn put(&mut self, noted: Noted) {
+    fn put(&mut self, noted: Noted)
+        ensures { IsAdded self.old.number noted self.old.list.items self.new.list.items }
+    {
         let note = Note {
             number: self.number,
             noted,
@@ -138,17 +146,18 @@ impl Notes {
         }
     }
 
-    fn lose(&mut self) {
+    fn lose(&mut self)
+        ensures { self.new.list ≡ self.old.list }
+    {
         self.lost = self.lost.saturating_add(1);
     }
 
     /// An association is open at the institution of a name.
-    pub(crate) fn accept(
-        &mut self,
-        home: &Listed<u8>,
-        agreement: Option<&Agreement>,
-        heard: Heard,
-    ) {
+    pub(crate) fn accept(&mut self, home: &Listed<u8>, agreement: Option<&Agreement>, heard: Heard)
+        ensures { (self.new.list.items ≡ self.old.list.items) ⊎ ((titles : Titles)
+            × (contexts : ℕ) × IsAdded self.old.number (Accepted home.now titles contexts)
+            self.old.list.items self.new.list.items) }
+    {
         let (Some(agreement), Some(titles)) = (agreement, heard.titles) else {
             return;
         };
@@ -163,14 +172,19 @@ impl Notes {
     }
 
     /// What a connection is closed by.
-    pub(crate) fn close(&mut self, ending: Option<Noted>) {
+    pub(crate) fn close(&mut self, ending: Option<Noted>)
+        ensures { MatchOption ending (self.new.list.items ≡ self.old.list.items) (λ noted.
+            IsAdded self.old.number noted self.old.list.items self.new.list.items) }
+    {
         if let Some(noted) = ending {
             self.put(noted);
         }
     }
 
     /// The connection with a number ended.
-    pub(crate) fn end(&mut self, number: u64) {
+    pub(crate) fn end(&mut self, number: u64)
+        ensures { IsAdded number Ended self.old.list.items self.new.list.items }
+    {
         self.number = number;
         self.put(Noted::Ended);
     }
@@ -185,20 +199,22 @@ impl Notes {
         self.is_kept
     }
 
-    /// A message was served.
+    /// A message was served. Of its identifier, if it is a C-FIND, nothing is noted but the tags of the
+    /// keys and the values that are asked of three of them.
     pub(crate) fn serve(
         &mut self,
         service: Service,
         status: u16,
         answers: usize,
         identifier: Option<&DataSet>,
-    ) {
-        let sought = match identifier {
-            Some(identifier) => match sought_in(self.alloc, service, identifier) {
-                Ok(sought) => Some(sought),
-                Err(AllocError) => return self.lose(),
-            },
-            None => None,
+    )
+        ensures { (self.new.list.items ≡ self.old.list.items) ⊎ ((sought : Option Sought)
+            × IsSoughtBy service (option_copied identifier.entry) sought
+            × IsAdded self.old.number (Served service status answers sought) self.old.list.items
+            self.new.list.items) }
+    {
+        let Ok(sought) = sought_of(self.alloc, service, identifier) else {
+            return self.lose();
         };
         self.put(Noted::Served {
             service,
@@ -359,5 +375,19 @@ fn sought_in(alloc: Global, service: Service, identifier: &DataSet) -> Result<So
     match service {
         Service::WorklistFind => entries_sought(alloc, identifier),
         _ => studies_sought(alloc, identifier),
+    }
+}
+
+/// What the identifier of a message of a service asks for, if it has one.
+fn sought_of(
+    alloc: Global,
+    service: Service,
+    identifier: Option<&DataSet>,
+) -> Result<Option<Sought>, AllocError>
+    ensures { IfOk result (IsSoughtBy service (option_copied identifier.entry)) }
+{
+    match identifier {
+        Some(identifier) => Ok(Some(sought_in(alloc, service, identifier)?)),
+        None => Ok(None),
     }
 }
