@@ -43,11 +43,12 @@ reads room true listening none read = record {
   heed = Heard room read.0;
   is = (listening, none, read.2);
   quiet = refl;
+  tells = λ institutions names rows done. tt;
   calls = read.1;
   leaves = ap (λ (c : Calling). c ∷ []) (sym read.3);
 }
 reads room false listening none read =
-    record { heed = Lost room read.0; is = (listening, none, read.2); quiet = refl; calls = read.1; leaves = refl }
+    record { heed = Lost room read.0; is = (listening, none, read.2); quiet = refl; tells = λ institutions names rows done. tt; calls = read.1; leaves = refl }
 
 -- one is let in
 pub came-in : (before after : Option (List Call)) (from to : List Calling) (place : ℕ) (caller : Calling) (kept : Bool) → HasRoomForCaller from

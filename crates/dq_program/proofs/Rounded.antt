@@ -1,8 +1,10 @@
 -- Rounds of a service, one after the other.
-use Rattle.std.proofs.Common.{◌≡◌, ◌<◌, ◌≤◌, ◌+◌, ℕ, List, [], ◌∷◌, ◌++◌, length, map, inl, inr, refl, sym, ◌∙◌, ap, ap₂, append_assoc, length-append, arith, Option, Some, None}
+use Rattle.std.proofs.Common.{◌≡◌, ◌<◌, ◌≤◌, ◌+◌, ℕ, List, [], ◌∷◌, ◌++◌, length, map, inl, inr, refl, sym, subst, ◌∙◌, ap, ap₂, append_assoc, length-append, arith, Option, Some, None}
 use Rattle.std.proofs.lemmas.List.{append-nil, length-map}
 use Rattle.std.proofs.lemmas.Grind.{flat_map-append}
 use Rattle.std.specs.List.{flat_map}
+use Rattle.dq_config.specs.declared.config.Institution.{Institution}
+use Rattle.dq_tables.specs.declared.row.Row.{Row}
 use Rattle.dq_tables.specs.Keeping.{State}
 use Rattle.dq_core.specs.declared.event.Event.{Event}
 use Rattle.dq_core.specs.declared.event.Event.TheVariants.{Open}
@@ -24,15 +26,15 @@ use Rattle.dq_wires.specs.Turners.{Turning}
 use Rattle.dq_wires.proofs.Logging.{logs-then, logs-none}
 use Rattle.dq_program.specs.declared.stop.Stop.{Stop}
 use Rattle.dq_program.specs.declared.stop.Stop.TheVariants as stop
-use Rattle.dq_program.specs.Console.{Calling, Attending, IsAttending, attending_calls, attending_acts, after_attending, interruption_acts}
+use Rattle.dq_program.specs.Console.{Calling, attending_calls, attending_acts, after_attending, interruption_acts, VisitsTell}
 use Rattle.dq_program.specs.Desk.{IsLeft}
-use Rattle.dq_program.specs.Heeding.{Interrupted}
+use Rattle.dq_program.specs.Heeding.{Attends, Interrupted}
 use Rattle.dq_program.specs.Program.{stop_of_turning}
-use Rattle.dq_program.specs.Serving.{WentOn, Attended, Round, round_acts, rounds_acts, console_calls, callers_left, ArePlain, ArePlainTo, AreConsoled, Halt, halt_acts, halt_calls, IsHalt, HasCause, IsServiceFault, IsConsoleStop}
+use Rattle.dq_program.specs.Serving.{WentOn, HoldsAt, Round, round_acts, rounds_acts, console_calls, callers_left, ArePlain, ArePlainTo, AreConsoled, RoundsTell, Halt, halt_acts, halt_calls, IsHalt, HaltTells, HasCause, IsServiceFault, IsConsoleStop}
 use Rattle.dq_program.specs.Serving.Round.{Plain, Consoled}
 use Rattle.dq_program.specs.Serving.Halt.{InTurn, AtConsole}
 use Rattle.dq_program.specs.Rounds.{RoundsWent, RoundsCut, Beside, BesideCut}
-use Rattle.dq_program.proofs.Serviced.{TurnsServe, TurnsCutServe, WholeServes, went-nowhere, went-then, went-by-turns}
+use Rattle.dq_program.proofs.Serviced.{TurnsServe, TurnsCutServe, WholeServes, holds-later, went-nowhere, went-then, went-by-turns}
 
 -- no turn is whole of one that was cut off
 none-below : {X : Type 0} (xs : List X) → length xs < 1 → xs ≡ []
@@ -79,40 +81,77 @@ left-then callers [] later = refl
 left-then callers (Plain turn ∷ some) later = left-then callers some later
 left-then callers (Consoled turn attending ∷ some) later = left-then (after_attending attending) some later
 
-pub beside-none : (log : Option (List Call)) (callers : List Calling) → Beside log log callers callers []
-beside-none log callers = record { are = tt; calls = logs-none log; leaves = refl }
+-- rounds after others tell of the rows as they are after those
+rounds-tell : (institutions : List Institution) (names : List (List ℕ)) (rows : List Row) (done : List Act) (some later : List Round)
+    → RoundsTell institutions names rows done some → RoundsTell institutions names rows (done ++ rounds_acts some) later
+    → RoundsTell institutions names rows done (some ++ later)
+rounds-tell institutions names rows done [] later a b = subst (λ (acts : List Act). RoundsTell institutions names rows acts later) (append-nil done) b
+rounds-tell institutions names rows done (Plain turn ∷ some) later a b =
+    rounds-tell institutions names rows (done ++ round_acts (Plain turn)) some later a
+    (subst (λ (acts : List Act). RoundsTell institutions names rows acts later) (sym (append_assoc done (round_acts (Plain turn)) (rounds_acts some))) b)
+rounds-tell institutions names rows done (Consoled turn attending ∷ some) later a b = (
+  a.0,
+  rounds-tell institutions names rows (done ++ round_acts (Consoled turn attending)) some later a.1
+      (subst (λ (acts : List Act). RoundsTell institutions names rows acts later)
+      (sym (append_assoc done (round_acts (Consoled turn attending)) (rounds_acts some))) b),
+)
 
-pub beside-then : {before mid after : Option (List Call)} {from via to : List Calling} (some later : List Round) → Beside before mid from via some
-    → Beside mid after via to later → Beside before after from to (some ++ later)
-beside-then {before} {mid} {after} {from} {via} {to} some later one next =
-    let are : AreConsoled (callers_left from some) later = rw one.leaves at next.are in
-    record {
-      are = consoled-then from some later one.are are;
-      calls = rw (flat_map-append console_calls some later)
-          (logs-then before mid after (flat_map console_calls some) (flat_map console_calls later) one.calls next.calls);
-      leaves = next.leaves ∙ ap (λ (callers : List Calling). callers_left callers later) one.leaves ∙ sym (left-then from some later);
-    }
+module _ {Tables : Type 0} (state : Tables → State) (names : List (List ℕ)) where
+  pub beside-none : (now : Option (List Call)) (old : Turning Tables) (log : Option (List Call)) (callers : List Calling)
+      → Beside state names now old log log callers callers []
+  beside-none now old log callers = record { are = tt; calls = logs-none log; leaves = refl; tells = λ honest rows start first done s. tt }
 
-pub beside-then-cut : {before mid after : Option (List Call)} {from via : List Calling} (some later : List Round) (halt : Halt) → Beside before mid from via some
-    → BesideCut mid after via later halt → BesideCut before after from (some ++ later) halt
-beside-then-cut {before} {mid} {after} {from} {via} some later halt one next =
-    let are : AreConsoled (callers_left from some) later = rw one.leaves at next.are in
-    let is : IsHalt (callers_left (callers_left from some) later) halt = rw one.leaves at next.is in
-    record {
-      are = consoled-then from some later one.are are;
-      is = rw (left-then from some later) is;
-      calls = rw (flat_map-append console_calls some later, append_assoc (flat_map console_calls some) (flat_map console_calls later) (halt_calls halt))
-          (logs-then before mid after (flat_map console_calls some) (flat_map console_calls later ++ halt_calls halt) one.calls next.calls);
-    }
+  pub beside-then : {now next_now before mid after : Option (List Call)} {old one : Turning Tables} {from via to : List Calling} (some later : List Round)
+      → Beside state names now old before mid from via some → WentOn state now next_now old one (rounds_acts some)
+      → Beside state names next_now one mid after via to later → Beside state names now old before after from to (some ++ later)
+  beside-then {before = before} {mid} {after} {from = from} {via} {to} some later first went next =
+      let are : AreConsoled (callers_left from some) later = rw first.leaves at next.are in
+      record {
+        are = consoled-then from some later first.are are;
+        calls = rw (flat_map-append console_calls some later)
+            (logs-then before mid after (flat_map console_calls some) (flat_map console_calls later) first.calls next.calls);
+        leaves = next.leaves ∙ ap (λ (callers : List Calling). callers_left callers later) first.leaves ∙ sym (left-then from some later);
+        tells = λ honest rows start server done s.
+            rounds-tell server.institutions names rows done some later (first.tells honest rows start server done s)
+            (holds-later state (λ institutions rows acts. RoundsTell institutions names rows acts later) went next.tells honest rows start server done s);
+      }
 
--- no turn of the console was begun
-pub beside-cut-none : (log : Option (List Call)) (callers : List Calling) (cut : Cut) → BesideCut log log callers [] (InTurn cut)
-beside-cut-none log callers cut = record { are = tt; is = tt; calls = logs-none log }
+  pub beside-then-cut : {now next_now before mid after : Option (List Call)} {old one : Turning Tables} {from via : List Calling} (some later : List Round)
+      (halt : Halt) → Beside state names now old before mid from via some → WentOn state now next_now old one (rounds_acts some)
+      → BesideCut state names next_now one mid after via later halt → BesideCut state names now old before after from (some ++ later) halt
+  beside-then-cut {before = before} {mid} {after} {from = from} {via} some later halt first went next =
+      let are : AreConsoled (callers_left from some) later = rw first.leaves at next.are in
+      let is : IsHalt (callers_left (callers_left from some) later) halt = rw first.leaves at next.is in
+      record {
+        are = consoled-then from some later first.are are;
+        is = rw (left-then from some later) is;
+        calls = rw (flat_map-append console_calls some later, append_assoc (flat_map console_calls some) (flat_map console_calls later) (halt_calls halt))
+            (logs-then before mid after (flat_map console_calls some) (flat_map console_calls later ++ halt_calls halt) first.calls next.calls);
+        tells = λ honest rows start server done s.
+            let told = holds-later state (λ institutions rows acts. RoundsTell institutions names rows acts later
+            × HaltTells institutions names rows (acts ++ rounds_acts later) halt) went next.tells honest rows start server done s in (
+              rounds-tell server.institutions names rows done some later (first.tells honest rows start server done s) told.0,
+              subst (λ (acts : List Act). HaltTells server.institutions names rows acts halt)
+                  (append_assoc done (rounds_acts some) (rounds_acts later) ∙ ap (λ (acts : List Act). done ++ acts) (sym (flat_map-append round_acts some later)))
+                  told.1,
+            );
+      }
 
--- its turns were made
-pub beside-cut-whole : {before after : Option (List Call)} {from to : List Calling} (rounds : List Round) → Beside before after from to rounds
-    → BesideCut before after from rounds (InTurn NoRoom)
-beside-cut-whole rounds one = record { are = one.are; is = tt; calls = rw append-nil one.calls }
+  -- no turn of the console was begun
+  pub beside-cut-none : (now : Option (List Call)) (old : Turning Tables) (log : Option (List Call)) (callers : List Calling) (cut : Cut)
+      → BesideCut state names now old log log callers [] (InTurn cut)
+  beside-cut-none now old log callers cut =
+      record { are = tt; is = tt; calls = logs-none log; tells = λ honest rows start first done s. (tt, tt) }
+
+  -- its turns were made
+  pub beside-cut-whole : {now before after : Option (List Call)} {old : Turning Tables} {from to : List Calling} (rounds : List Round)
+      → Beside state names now old before after from to rounds → BesideCut state names now old before after from rounds (InTurn NoRoom)
+  beside-cut-whole rounds one = record {
+    are = one.are;
+    is = tt;
+    calls = rw append-nil one.calls;
+    tells = λ honest rows start first done s. (one.tells honest rows start first done s, tt);
+  }
 
 -- ---- why a service is stopped
 
@@ -158,12 +197,13 @@ module _ {Tables : Type 0} (state : Tables → State) where
   rounds-none log it so = record { rounds = []; counted = refl; so = so; went = went-nowhere state log it }
 
   pub rounds-then : {before mid after : Option (List Call)} {old one new : Turning Tables} {count more : ℕ} {First Later Both : List Round → Type 0}
-      → ((some later : List Round) → First some → Later later → Both (some ++ later)) → RoundsWent state before mid old one count First
+      → ((some later : List Round) → First some → WentOn state before mid old one (rounds_acts some) → Later later → Both (some ++ later))
+      → RoundsWent state before mid old one count First
       → RoundsWent state mid after one new more Later → RoundsWent state before after old new (count + more) Both
   rounds-then join first next = record {
     rounds = first.rounds ++ next.rounds;
     counted = length-append first.rounds next.rounds ∙ ap₂ (λ (n m : ℕ). n + m) first.counted next.counted;
-    so = join first.rounds next.rounds first.so next.so;
+    so = join first.rounds next.rounds first.so first.went next.so;
     went = rw (flat_map-append round_acts first.rounds next.rounds) (went-then state first.went next.went);
   }
 
@@ -221,14 +261,15 @@ module _ {Tables : Type 0} (state : Tables → State) where
   -- rounds, and then one that was stopped
   pub rounds-cut : {breaks : Type 0} {before mid after : Option (List Call)} {old one : Turning Tables} {new : Standing Tables} {made count : ℕ} {cause : Stop}
       {First : List Round → Type 0} {Later Both : List Round → Halt → Type 0}
-      → ((some later : List Round) (halt : Halt) → First some → Later later halt → Both (some ++ later) halt) → made + 1 ≤ count
+      → ((some later : List Round) (halt : Halt) → First some → WentOn state before mid old one (rounds_acts some) → Later later halt
+      → Both (some ++ later) halt) → made + 1 ≤ count
       → RoundsWent state before mid old one made First → RoundsCut state breaks mid after one new 1 Later cause
       → RoundsCut state breaks before after old new count Both cause
   rounds-cut {after = after} join within first next = record {
     rounds = first.rounds ++ next.rounds;
     most = omega (arith, within, first.counted, next.most, length-append first.rounds next.rounds);
     halt = next.halt;
-    so = join first.rounds next.rounds next.halt first.so next.so;
+    so = join first.rounds next.rounds next.halt first.so first.went next.so;
     causes = next.causes;
     off = λ rows start server done s.
         let acts = rounds_acts first.rounds in
@@ -238,16 +279,25 @@ module _ {Tables : Type 0} (state : Tables → State) where
   }
 
   -- a turn of all connections, and then one of the console that was interrupted
-  module _ {breaks : Type 0} {before after beside left : Option (List Call)} {old mid new : Turning Tables} {from : List Calling} {cause : Stop}
-      (law : TurnsServe state) (whole : WholeServes state) (at : Interrupted state beside left mid new from) (is : IsConsoleStop cause) where
+  module _ {breaks : Type 0} {names : List (List ℕ)} {before after beside left : Option (List Call)} {old mid new : Turning Tables} {from : List Calling}
+      {cause : Stop} (law : TurnsServe state) (whole : WholeServes state) (at : Interrupted state names beside left mid new from) (is : IsConsoleStop cause) where
     interrupted-round : (turns : List Turn) → length turns ≡ 1 → WentOn state before after old mid (all_turned turns)
-        → RoundsCut state breaks before after old new.server 1 (BesideCut beside left from) cause
+        → RoundsCut state breaks before after old new.server 1 (BesideCut state names before old beside left from) cause
     interrupted-round [] one went = absurd (cc)
     interrupted-round (turn ∷ []) one went = record {
       rounds = [];
       most = omega arith;
       halt = AtConsole turn at.it;
-      so = record { are = tt; is = at.is; calls = at.calls };
+      so = record {
+        are = tt;
+        is = at.is;
+        calls = at.calls;
+        tells = λ honest rows start first done s. (
+          tt,
+          subst (λ (acts : List Act). VisitsTell first.institutions names rows (acts ++ Turned turn ∷ []) at.it.visits) (sym (append-nil done))
+              (at.tells after honest rows start first (done ++ Turned turn ∷ []) (went.serves rows start first done s)),
+        );
+      };
       causes = console-cause breaks cause is;
       off = λ rows start first done s.
           let all = went-then state went (at.acts after) in
@@ -262,30 +312,31 @@ module _ {Tables : Type 0} (state : Tables → State) where
     interrupted-round (turn ∷ more ∷ turns) one went = absurd (cc)
 
     pub cut-console : TurnsWent (Moves state) before after old.server mid.server old.hold mid.hold 1 → mid.fault ≡ None
-        → RoundsCut state breaks before after old new.server 1 (BesideCut beside left from) cause
+        → RoundsCut state breaks before after old new.server 1 (BesideCut state names before old beside left from) cause
     cut-console went works = interrupted-round went.turns went.whole (went-by-turns state law went works)
 
   -- a turn of all connections, and then one of the console
-  module _ {before after beside left : Option (List Call)} {old mid new : Turning Tables} {from to : List Calling} (law : TurnsServe state)
-      (attends : (a : Attending) × IsAttending from a × LogsAll beside left (attending_calls a) × Attended state mid new (attending_acts a)
-      × (to ≡ after_attending a)) where
+  module _ {names : List (List ℕ)} {before after beside left : Option (List Call)} {old mid new : Turning Tables} {from to : List Calling}
+      (law : TurnsServe state) (attends : Attends state names beside left mid new from to) where
     consoled-round : (turns : List Turn) → length turns ≡ 1 → WentOn state before after old mid (all_turned turns)
-        → RoundsWent state before after old new 1 (Beside beside left from to)
+        → RoundsWent state before after old new 1 (Beside state names before old beside left from to)
     consoled-round [] is went = absurd (cc)
     consoled-round (turn ∷ []) is went =
-        let attending = attends.0 in
+        let attending = attends.attending in
         record {
           rounds = Consoled turn attending ∷ [];
           counted = refl;
           so = record {
-            are = (attends.1, tt);
-            calls = rw (append-nil (attending_calls attending)) attends.2;
-            leaves = attends.4;
+            are = (attends.is, tt);
+            calls = rw (append-nil (attending_calls attending)) attends.calls;
+            leaves = attends.leaves;
+            tells = λ honest rows start first done s.
+                (attends.tells after honest rows start first (done ++ Turned turn ∷ []) (went.serves rows start first done s), tt);
           };
-          went = rw (append-nil (attending_acts attending)) (went-then state went (attends.3 after));
+          went = rw (append-nil (attending_acts attending)) (went-then state went (attends.acts after));
         }
     consoled-round (turn ∷ more ∷ turns) is went = absurd (cc)
 
     pub beside-round : TurnsWent (Moves state) before after old.server mid.server old.hold mid.hold 1 → mid.fault ≡ None
-        → RoundsWent state before after old new 1 (Beside beside left from to)
+        → RoundsWent state before after old new 1 (Beside state names before old beside left from to)
     beside-round went works = consoled-round went.turns went.whole (went-by-turns state law went works)

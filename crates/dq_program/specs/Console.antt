@@ -1,25 +1,30 @@
 -- What is done for those who call the console, told by the calls of its wires.
 use Rattle.std.specs.Prelude.{◌≡◌, ◌≢◌, ◌⊎◌, ◌<◌, ◌≤◌, ◌+◌, ◌^◌, ◌==◌, ℕ, Bool, true, false, nat_lt, if◌then◌else◌, List, [], ◌∷◌, ◌++◌, length, take, drop, map, codes, Option, Some, None, Result, Ok, Err}
 use Rattle.std.specs.List.{flat_map, position_or_len}
+use Rattle.dq_config.specs.declared.config.Institution.{Institution}
+use Rattle.dq_tables.specs.declared.row.Row.{Row}
 use Rattle.dq_core.specs.declared.event.Event.{Event}
 use Rattle.dq_core.specs.declared.event.Reply.{Reply}
+use Rattle.dq_core.specs.Shared.{world_after}
 use Rattle.dq_wires.specs.declared.calls.WireFault.{WireFault}
 use Rattle.dq_wires.specs.declared.calls.ReadOutcome.{ReadOutcome}
 use Rattle.dq_wires.specs.declared.calls.ReadOutcome.TheVariants as what
 use Rattle.dq_wires.specs.declared.calls.Call.{Call}
 use Rattle.dq_wires.specs.declared.calls.Call.TheVariants.{Accept, Read, Write, Shut}
 use Rattle.dq_wires.specs.Deeds.{Shutting}
-use Rattle.dq_wires.specs.Servings.{Act}
+use Rattle.dq_wires.specs.Servings.{Act, served_events}
 use Rattle.dq_wires.specs.Servings.Act.{Ordered}
 use Rattle.dq_wires.specs.Turners.{IsOrder}
 use Rattle.dq_wires.specs.Turns.{accept_failure}
+use Rattle.dq_wires.specs.Turns.Cut.{NoRoom}
 use Rattle.dq_captures.specs.Captures.{line_feed}
 use Rattle.dq_captures.specs.Printing.{printed_line}
+use Rattle.dq_captures.specs.Reports.{report_text}
 use Rattle.dq_program.specs.declared.desk.Line.TheVariants as line
 use Rattle.dq_program.specs.declared.stores.Uncopied.{Uncopied}
 use Rattle.dq_program.specs.Backups.{backup_text}
 use Rattle.dq_program.specs.declared.searching.Subject.{Subject}
-use Rattle.dq_program.specs.Searching.{subject_word}
+use Rattle.dq_program.specs.Searching.{subject_word, IsToldOf}
 use Rattle.dq_program.specs.Desk.{TellsLine, bad_line}
 
 -- A caller: its place among the wires, the octets that came and are not taken, those of its answer
@@ -108,6 +113,21 @@ is_unread (Reported report) = false
 is_unread (BackedUp made) = false
 is_unread (Searched found) = false
 is_unread Unread = true
+
+-- What an answer tells of the rows that are there: a report counts them, by the names of the
+-- institutions, and a search tells what the institution that its line names is shown of them.
+abbrev pub TellsRows : List Institution → List (List ℕ) → List Row → List ℕ → LineAnswer → Type 0
+TellsRows institutions names rows text (Obeyed event reply) = Unit {0}
+TellsRows institutions names rows text (Reported report) = report ≡ report_text rows names
+TellsRows institutions names rows text (BackedUp made) = Unit {0}
+TellsRows institutions names rows text (Searched found) = (subject : Subject) × (rest : List ℕ)
+    × (text ≡ subject_word subject ++ rest) × IsToldOf institutions rows subject rest found
+TellsRows institutions names rows text Unread = Unit {0}
+
+-- the rows after the events of acts
+abbrev pub rows_after : List Institution → List Row → List Act → List Row
+rows_after institutions rows acts =
+    (world_after institutions rows (served_events acts NoRoom)).rows
 
 -- ---- the turn of a caller
 
@@ -229,6 +249,24 @@ IsVisit visit = IsHeed visit.caller visit.heed × IsShut (callers_kept visit) vi
 abbrev pub AreVisits : List Visit → Type 0
 AreVisits [] = Unit {0}
 AreVisits (visit ∷ visits) = IsVisit visit × AreVisits visits
+
+-- What is told to a caller is of the rows after these acts.
+abbrev pub HeedTells : List Institution → List (List ℕ) → List Row → List Act → Calling → Heed
+    → Type 0
+HeedTells institutions names rows done caller (Offered taken) = Unit {0}
+HeedTells institutions names rows done caller Closed = Unit {0}
+HeedTells institutions names rows done caller (Heard room came) = Unit {0}
+HeedTells institutions names rows done caller (Lost room came) = Unit {0}
+HeedTells institutions names rows done caller Forgotten = Unit {0}
+HeedTells institutions names rows done caller (Took answer taken) =
+    TellsRows institutions names (rows_after institutions rows done) (first_line caller.came) answer
+
+-- Each caller is told of the rows as they are at its turn.
+abbrev pub VisitsTell : List Institution → List (List ℕ) → List Row → List Act → List Visit → Type 0
+VisitsTell institutions names rows done [] = Unit {0}
+VisitsTell institutions names rows done (visit ∷ visits) =
+    HeedTells institutions names rows done visit.caller visit.heed
+    × VisitsTell institutions names rows (done ++ visit_acts visit) visits
 
 -- the most callers at a time
 abbrev pub most_callers : ℕ

@@ -1,9 +1,10 @@
 -- What the console is told, and what it answers.
-use Rattle.std.specs.Prelude.{◌≡◌, ◌≢◌, ◌⊎◌, ℕ, Bool, true, false, List, [], ◌∷◌, ◌++◌, codes, string_bytes, Result, OnOk}
+use Rattle.std.specs.Prelude.{◌≡◌, ◌≢◌, ◌⊎◌, ℕ, Bool, true, false, List, [], ◌∷◌, ◌++◌, codes, string_bytes, Option, Some, None, Result, OnOk}
 use Rattle.std.specs.Str.{IsUtf8}
 use Rattle.dq_tables.specs.declared.row.Row.{Row}
 use Rattle.dq_tables.specs.Keeping.{State}
 use Rattle.dq_core.specs.declared.event.Event.{Event}
+use Rattle.dq_core.specs.declared.event.Event.TheVariants.{Open, Piece, End, Pull, Schedule, Withdraw}
 use Rattle.dq_core.specs.declared.event.Reply.{Reply}
 use Rattle.dq_core.specs.Standing.{Standing}
 use Rattle.dq_core.specs.declared.fault.Fault.{Fault}
@@ -47,6 +48,30 @@ is_bad Report = false
 is_bad (Backup path) = false
 is_bad (Search subject rest) = false
 is_bad Bad = true
+
+-- the name of an institution in a note, and `-` if it is no text
+abbrev pub IsNameNoted : List ℕ → List ℕ → Type 0
+IsNameNoted octets name =
+    (IsUtf8 octets → name ≡ octets) × ((IsUtf8 octets → ⊥) → name ≡ codes "-")
+
+-- A note has a word and a name.
+abbrev pub NotesName : List ℕ → List ℕ → Option (List ℕ) → Type 0
+NotesName word octets note = (name : List ℕ) × IsNameNoted octets name
+    × (note ≡ Some (word ++ name ++ codes " "))
+
+-- What a note says of a line before its answer: of an order its word and its institution, of a copy
+-- that it is one, and of a line that tells nothing only the answer. Of others there is none.
+abbrev pub NotesLine : Line → Option (List ℕ) → Type 0
+NotesLine (Order (Schedule inst octets)) note = NotesName (codes "schedule ") inst note
+NotesLine (Order (Withdraw inst id)) note = NotesName (codes "withdraw ") inst note
+NotesLine (Order (Open number)) note = note ≡ None
+NotesLine (Order (Piece number octets)) note = note ≡ None
+NotesLine (Order (End number)) note = note ≡ None
+NotesLine (Order (Pull number)) note = note ≡ None
+NotesLine Report note = note ≡ None
+NotesLine (Backup path) note = note ≡ Some (codes "backup ")
+NotesLine (Search subject rest) note = note ≡ None
+NotesLine Bad note = note ≡ Some []
 
 -- what is answered to one that tells nothing
 abbrev pub bad_line : List ℕ

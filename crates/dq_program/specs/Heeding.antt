@@ -1,6 +1,8 @@
 -- How parts of a turn of the console went. This is there for the prover.
 use Rattle.std.specs.Prelude.{◌≡◌, ◌≢◌, ℕ, Bool, true, false, if◌then◌else◌, List, [], ◌∷◌, ◌++◌, map, Option, Some, None, Result}
 use Rattle.std.specs.List.{flat_map}
+use Rattle.dq_config.specs.declared.config.Institution.{Institution}
+use Rattle.dq_tables.specs.declared.row.Row.{Row}
 use Rattle.dq_tables.specs.Keeping.{State}
 use Rattle.dq_core.specs.declared.event.Event.{Event}
 use Rattle.dq_core.specs.declared.event.Reply.{Reply}
@@ -11,12 +13,13 @@ use Rattle.dq_wires.specs.declared.calls.Call.{Call}
 use Rattle.dq_wires.specs.declared.calls.Call.TheVariants.{Read, Write}
 use Rattle.dq_wires.specs.Deeds.{Shutting}
 use Rattle.dq_wires.specs.Logs.{Logs, LogsAll}
+use Rattle.dq_wires.specs.Servings.{Act}
 use Rattle.dq_wires.specs.Turners.{Turning}
 use Rattle.dq_program.specs.declared.caller.Next.{Next}
 use Rattle.dq_program.specs.declared.caller.Next.TheVariants as next
-use Rattle.dq_program.specs.Console.{Calling, HasNone, HasLine, first_line, without_line, TakesMore, MayBring, with_octets, after_write, LineAnswer, IsLineAnswer, line_answer_text, answer_acts, is_unread, caller_with_answer, Heed, IsHeed, heed_calls, heed_acts, after_heed, Letting, IsLetting, letting_calls, with_let_in, Visit, caller_of, callers_kept, visit_calls, visit_acts, IsShut, AreVisits, IsUnanswered, order_acts, Interruption, IsInterruption, interruption_calls, interruption_acts}
+use Rattle.dq_program.specs.Console.{Calling, HasNone, HasLine, first_line, without_line, TakesMore, MayBring, with_octets, after_write, LineAnswer, IsLineAnswer, line_answer_text, answer_acts, is_unread, caller_with_answer, Heed, IsHeed, heed_calls, heed_acts, after_heed, Letting, IsLetting, letting_calls, with_let_in, Visit, caller_of, callers_kept, visit_calls, visit_acts, IsShut, AreVisits, IsUnanswered, order_acts, Attending, IsAttending, attending_calls, attending_acts, after_attending, Interruption, IsInterruption, interruption_calls, interruption_acts, rows_after, TellsRows, HeedTells, VisitsTell}
 use Rattle.dq_program.specs.Desk.{IsLeft}
-use Rattle.dq_program.specs.Serving.{Attended}
+use Rattle.dq_program.specs.Serving.{Attended, Holds}
 
 -- what is taken of a caller
 abbrev pub TakesLine : Calling → Calling → Option (List ℕ) → Type 0
@@ -44,6 +47,8 @@ pub record Quiet (before after : Option (List Call)) (old new : Calling)
   pub heed : Heed
   pub is : IsHeed old heed
   pub quiet : heed_acts heed ≡ []
+  pub tells : (institutions : List Institution) (names : List (List ℕ)) (rows : List Row)
+      (done : List Act) → HeedTells institutions names rows done old heed
   pub calls : LogsAll before after (heed_calls old heed)
   pub leaves : after_heed old heed ≡ (if there then new ∷ [] else [])
 
@@ -55,18 +60,6 @@ ComesNext before after old new (next.Line line) = TakesMore old × HasLine old.c
     × (line.items ≡ first_line old.came) × (new ≡ without_line old) × (after ≡ before)
 
 module _ {Tables : Type 0} (state : Tables → State) where
-  -- what a line tells was done, and the caller has its answer
-  pub record Does (old new : Turning Tables) (line : List ℕ) (caller next : Calling) : Type 0 where
-    pub answer : LineAnswer
-    pub is : IsLineAnswer line answer
-    pub acts : Attended state old new (answer_acts answer)
-    pub leaves : next ≡ caller_with_answer caller (line_answer_text answer) (is_unread answer)
-
-  -- the same; or there was no memory for the line, and nothing was done
-  abbrev pub DoesIf : Turning Tables → Turning Tables → List ℕ → Calling → Calling → Bool → Type 0
-  DoesIf old new line caller next true = Does old new line caller next
-  DoesIf old new line caller next false = new ≡ old
-
   -- A fault came at a line, and there is no answer to it.
   pub record Halted (old new : Turning Tables) (line : List ℕ) : Type 0 where
     pub order : Option (Event × Reply)
@@ -81,6 +74,22 @@ module _ {Tables : Type 0} (state : Tables → State) where
   HaltedAt before after old new caller = TakesMore caller × HasLine caller.came
       × (after ≡ before) × Halted old new (first_line caller.came)
 
+-- over the names of the institutions
+module _ {Tables : Type 0} (state : Tables → State) (names : List (List ℕ)) where
+  -- what a line tells was done, and the caller has its answer
+  pub record Does (old new : Turning Tables) (line : List ℕ) (caller next : Calling) : Type 0 where
+    pub answer : LineAnswer
+    pub is : IsLineAnswer line answer
+    pub acts : Attended state old new (answer_acts answer)
+    pub leaves : next ≡ caller_with_answer caller (line_answer_text answer) (is_unread answer)
+    pub tells : Holds state old (λ institutions rows done.
+        TellsRows institutions names (rows_after institutions rows done) line answer)
+
+  -- the same; or there was no memory for the line, and nothing was done
+  abbrev pub DoesIf : Turning Tables → Turning Tables → List ℕ → Calling → Calling → Bool → Type 0
+  DoesIf old new line caller next true = Does old new line caller next
+  DoesIf old new line caller next false = new ≡ old
+
   -- the turn of a caller was made, but for its shut if it is gone
   pub record Heeded (before after : Option (List Call)) (old new : Turning Tables)
       (caller next : Calling) (there : Bool) : Type 0 where
@@ -89,6 +98,8 @@ module _ {Tables : Type 0} (state : Tables → State) where
     pub calls : LogsAll before after (heed_calls caller heed)
     pub acts : Attended state old new (heed_acts heed)
     pub leaves : after_heed caller heed ≡ (if there then next ∷ [] else [])
+    pub tells : Holds state old (λ institutions rows done.
+        HeedTells institutions names rows done caller heed)
 
   -- it was made
   pub record Visited (before after : Option (List Call)) (old new : Turning Tables)
@@ -101,6 +112,8 @@ module _ {Tables : Type 0} (state : Tables → State) where
         (visit_calls (record { caller = caller; heed = heed; shut = shut }))
     pub acts : Attended state old new (heed_acts heed)
     pub leaves : after_heed caller heed ≡ (if there then next ∷ [] else [])
+    pub tells : Holds state old (λ institutions rows done.
+        HeedTells institutions names rows done caller heed)
 
   -- the turns of all were made
   pub record AllVisited (before after : Option (List Call)) (old new : Turning Tables)
@@ -111,6 +124,8 @@ module _ {Tables : Type 0} (state : Tables → State) where
     pub calls : LogsAll before after (flat_map visit_calls visits)
     pub acts : Attended state old new (flat_map visit_acts visits)
     pub kept : to ≡ flat_map callers_kept visits
+    pub tells : Holds state old (λ institutions rows done.
+        VisitsTell institutions names rows done visits)
 
   -- the turns of some were made, and a fault came in that of the next
   pub record SomeVisited (before after : Option (List Call)) (old new : Turning Tables)
@@ -128,6 +143,19 @@ module _ {Tables : Type 0} (state : Tables → State) where
     pub last : Turning Tables
     pub acts : Attended state old last (flat_map visit_acts visits ++ order_acts order)
     pub left : IsLeft state last.server new.server
+    pub tells : Holds state old (λ institutions rows done.
+        VisitsTell institutions names rows done visits)
+
+  -- a turn of the console was made
+  pub record Attends (before after : Option (List Call)) (old new : Turning Tables)
+      (callers left : List Calling) : Type 0 where
+    pub attending : Attending
+    pub is : IsAttending callers attending
+    pub calls : LogsAll before after (attending_calls attending)
+    pub acts : Attended state old new (attending_acts attending)
+    pub leaves : left ≡ after_attending attending
+    pub tells : Holds state old (λ institutions rows done.
+        VisitsTell institutions names rows done attending.visits)
 
   -- a turn of the console was interrupted
   pub record Interrupted (before after : Option (List Call)) (old new : Turning Tables)
@@ -138,6 +166,8 @@ module _ {Tables : Type 0} (state : Tables → State) where
     pub last : Turning Tables
     pub acts : Attended state old last (interruption_acts it)
     pub left : IsLeft state last.server new.server
+    pub tells : Holds state old (λ institutions rows done.
+        VisitsTell institutions names rows done it.visits)
 
 -- a turn began
 pub record LetsIn (before after : Option (List Call)) (from to : List Calling) : Type 0 where

@@ -1,3 +1,4 @@
+pub mod Asking
 pub mod Backups
 pub mod Checks
 pub mod Console

@@ -29,7 +29,7 @@ pub record ArePlayedOver {Wired : Type 0} (log : Wired → Option (List Call))
     (institutions : List Institution) (events : List Event) : Type 0 where
   pub acts : List Act
   pub played : ArePlayed [] nothing_held events acts
-  pub served : AreServed log institutions [] acts NoRoom
+  pub served : AreServed log (λ wires. Unit {0}) institutions [] acts NoRoom
 
 module _ {Wired : Type 0} (log : Wired → Option (List Call)) (held : List ℕ → Option (List ℕ))
     (file input : Option (List ℕ)) where

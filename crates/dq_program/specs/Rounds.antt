@@ -13,7 +13,7 @@ use Rattle.dq_wires.specs.Turners.{Turning}
 use Rattle.dq_program.specs.declared.stop.Stop.{Stop}
 use Rattle.dq_program.specs.Console.{Calling}
 use Rattle.dq_program.specs.Desk.{IsLeft}
-use Rattle.dq_program.specs.Serving.{WentOn, Round, rounds_acts, console_calls, AreConsoled, callers_left, Halt, halt_acts, halt_cut, halt_calls, IsHalt, HasCause}
+use Rattle.dq_program.specs.Serving.{WentOn, HoldsAt, Round, rounds_acts, console_calls, AreConsoled, callers_left, RoundsTell, Halt, halt_acts, halt_cut, halt_calls, IsHalt, HaltTells, HasCause}
 
 -- So many rounds were made, which are so.
 pub record RoundsWent {Tables : Type 0} (state : Tables → State) (before after : Option (List Call))
@@ -47,16 +47,22 @@ pub record RoundsCut {Tables : Type 0} (state : Tables → State) (breaks : Type
       → CutOff state rows start after first new (done ++ (rounds_acts rounds ++ halt_acts halt))
       (halt_cut halt)
 
--- Each round had a turn of the console, which led from these callers to those.
-pub record Beside (before after : Option (List Call)) (from to : List Calling)
-    (rounds : List Round) : Type 0 where
-  pub are : AreConsoled from rounds
-  pub calls : LogsAll before after (flat_map console_calls rounds)
-  pub leaves : to ≡ callers_left from rounds
+-- They began as the calls of the wires had gone on to `now`.
+module _ {Tables : Type 0} (state : Tables → State) (names : List (List ℕ))
+    (now : Option (List Call)) (old : Turning Tables) (before after : Option (List Call)) where
+  -- Each round had a turn of the console, which led from these callers to those.
+  pub record Beside (from to : List Calling) (rounds : List Round) : Type 0 where
+    pub are : AreConsoled from rounds
+    pub calls : LogsAll before after (flat_map console_calls rounds)
+    pub leaves : to ≡ callers_left from rounds
+    pub tells : HoldsAt state now old (λ institutions rows done.
+        RoundsTell institutions names rows done rounds)
 
--- Each round had one, and so had the next, as far as it came.
-pub record BesideCut (before after : Option (List Call)) (from : List Calling)
-    (rounds : List Round) (halt : Halt) : Type 0 where
-  pub are : AreConsoled from rounds
-  pub is : IsHalt (callers_left from rounds) halt
-  pub calls : LogsAll before after (flat_map console_calls rounds ++ halt_calls halt)
+  -- Each round had one, and so had the next, as far as it came.
+  pub record BesideCut (from : List Calling) (rounds : List Round) (halt : Halt) : Type 0 where
+    pub are : AreConsoled from rounds
+    pub is : IsHalt (callers_left from rounds) halt
+    pub calls : LogsAll before after (flat_map console_calls rounds ++ halt_calls halt)
+    pub tells : HoldsAt state now old (λ institutions rows done.
+        RoundsTell institutions names rows done rounds
+        × HaltTells institutions names rows (done ++ rounds_acts rounds) halt)

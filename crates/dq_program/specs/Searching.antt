@@ -3,7 +3,7 @@
 use Rattle.std.specs.Prelude.{◌≡◌, ◌≢◌, ◌⊎◌, ◌==◌, ℕ, Bool, if◌then◌else◌, List, [], ◌∷◌, ◌++◌, length, take, codes, Option, Some, None}
 use Rattle.std.specs.Fmt.{decimal}
 use Rattle.std.specs.Int.{w16, to_be_bytes}
-use Rattle.std.specs.List.{flat_map, position}
+use Rattle.std.specs.List.{flat_map, position, after_first}
 use Rattle.hex.specs.Hex.{encode_upper}
 use Rattle.json.specs.Print.{print}
 use Rattle.dq_config.specs.declared.config.Institution.{Institution}
@@ -17,6 +17,8 @@ use Rattle.dq_core.specs.declared.showing.SearchKind.TheVariants as among
 use Rattle.dq_core.specs.declared.showing.ShownPage.{ShownPage}
 use Rattle.dq_core.specs.Showing.{found_for, steps_for}
 use Rattle.dq_captures.specs.Captures.{line_feed}
+use Rattle.dq_program.specs.declared.asking.GivenKey.{GivenKey}
+use Rattle.dq_program.specs.Asking.{AreKeysOf, IsIdentifierOf}
 use Rattle.dq_program.specs.declared.searching.Subject.{Subject}
 use Rattle.dq_program.specs.declared.searching.Subject.TheVariants.{Studies, Series, Images, Worklist, Steps}
 use Rattle.dq_program.specs.declared.searching.Wanted.{Wanted}
@@ -84,19 +86,28 @@ abbrev pub steps_text : Option (List ElementList) → List ℕ
 steps_text None = refused_text (codes "6")
 steps_text (Some steps) = answers_text steps
 
--- What the words of a line want of a subject: a page of the steps, or what keys find; or one of them is
--- refused.
-abbrev pub IsWanted : Subject → Wanted → Type 0
-IsWanted subject (Refused text) = (word : List ℕ) × (text.items ≡ refused_word word)
-IsWanted subject (wanted.Steps page) = subject ≡ Steps
-IsWanted subject (Keys keys page) = subject ≢ Steps
+-- the words behind it
+abbrev pub words_in : List ℕ → List ℕ
+words_in rest = after_first is_space rest
 
--- What is told of the institution that the line names: a page of its steps, or what some keys find; or
--- that a word is refused, whatever the rows are.
+-- The identifier that the words behind the name give.
+abbrev pub Identifies : Subject → List ℕ → ElementList → Type 0
+Identifies subject rest identifier = (keys : List GivenKey) × AreKeysOf (words_in rest) keys
+    × IsIdentifierOf subject keys identifier
+
+-- What the words of a line want of a subject: a page of the steps, or what their keys find; or one of
+-- them is refused.
+abbrev pub IsWanted : Subject → List ℕ → Wanted → Type 0
+IsWanted subject rest (Refused text) = (word : List ℕ) × (text.items ≡ refused_word word)
+IsWanted subject rest (wanted.Steps page) = subject ≡ Steps
+IsWanted subject rest (Keys keys page) = (subject ≢ Steps) × Identifies subject rest keys
+
+-- What is told of the institution that the line names: a page of its steps, or what the keys of the line
+-- find; or that a word is refused, whatever the rows are.
 abbrev pub IsToldOf : List Institution → List Row → Subject → List ℕ → List ℕ → Type 0
 IsToldOf institutions rows subject rest text =
     ((word : List ℕ) × (text ≡ refused_word word))
     ⊎ (((page : ShownPage) × (subject ≡ Steps)
     × (text ≡ steps_text (steps_for institutions (name_in rest) rows page)))
-    ⊎ ((keys : ElementList) × (page : ShownPage) × (subject ≢ Steps)
+    ⊎ ((keys : ElementList) × (page : ShownPage) × ((subject ≢ Steps) × Identifies subject rest keys)
     × (text ≡ found_text (found_for institutions (name_in rest) rows (kind_of subject) keys page))))

@@ -1,5 +1,6 @@
 -- What serving connections does.
-use Rattle.std.specs.Prelude.{◌≡◌, ◌⊎◌, ◌≤◌, ◌^◌, ◌-◌, ℕ, List, [], ◌∷◌, ◌++◌, length, codes, Option, Some, None, IfSome}
+use Rattle.std.specs.Prelude.{◌≡◌, ◌⊎◌, ◌≤◌, ◌^◌, ◌-◌, ◌*◌, ℕ, nat_lt, if◌then◌else◌, List, [], ◌∷◌, ◌++◌, length, codes, Option, Some, None, option_map, IfSome}
+use Rattle.std.specs.Duration.{as_nanos}
 use Rattle.std.specs.List.{flat_map}
 use Rattle.std.specs.Io.KnownBytes.{Keeps, Appends}
 use Rattle.dq_config.specs.declared.config.Institution.{Institution}
@@ -10,19 +11,21 @@ use Rattle.dq_core.specs.Standing.{Standing}
 use Rattle.dq_tables.specs.declared.row.Row.{Row}
 use Rattle.dq_tables.specs.Keeping.{State}
 use Rattle.dq_wires.specs.declared.calls.Call.{Call}
+use Rattle.dq_wires.specs.declared.given_up.Limits.{Limits}
 use Rattle.dq_wires.specs.Logs.{LogsAll}
 use Rattle.dq_wires.specs.Steps.{replies_of}
 use Rattle.dq_wires.specs.Turns.{Turn, Cut, IsCut, cut_calls}
 use Rattle.dq_wires.specs.Turns.Cut.{NoRoom, Unaccepted}
 use Rattle.dq_wires.specs.Turners.{Turning}
 use Rattle.dq_wires.specs.Servings.{Act, act_calls, nothing_held, AreActs, after_acts, served_steps, served_events, Serving}
-use Rattle.dq_words.specs.Words.{callers_of, Serving as Service}
+use Rattle.dq_words.specs.Words.{callers_of, WebFront, Serving as Service}
 use Rattle.dq_wires.specs.Servings.Act.{Turned}
 use Rattle.dq_program.specs.declared.stop.Stop.{Stop}
 use Rattle.dq_program.specs.declared.stop.Stop.TheVariants as stop
-use Rattle.dq_program.specs.Console.{Calling, Attending, IsAttending, attending_acts, attending_calls, after_attending, Interruption, IsInterruption, interruption_acts, interruption_calls}
-use Rattle.dq_program.specs.Program.{no_memory, IsRunFault, IsConfigured, RefusesFile, RefusesStore, rows_at, ClosesAt, unclosed_store}
+use Rattle.dq_program.specs.Console.{Calling, Attending, IsAttending, attending_acts, attending_calls, after_attending, Interruption, IsInterruption, interruption_acts, interruption_calls, rows_after, VisitsTell}
+use Rattle.dq_program.specs.Program.{no_memory, AreHonest, IsRunFault, IsConfigured, RefusesFile, RefusesStore, IsInStore, rows_at, ClosesAt, unclosed_store}
 use Rattle.dq_captures.specs.Printing.{numbered_line}
+use Rattle.dq_captures.specs.Reports.{names_of}
 use Rattle.dq_captures.specs.Surroundings.{BreaksOff}
 
 -- the line that is printed once connections can come in
@@ -33,6 +36,34 @@ ready_text port = numbered_line (codes "ready ") port
 abbrev pub turn_count : Option ℕ → ℕ
 turn_count None = 2 ^ 64 - 1
 turn_count (Some turns) = turns
+
+-- ---- where connections come in
+
+-- a count, where it is limited: 0 is no limit
+abbrev pub limit_of : ℕ → Option ℕ
+limit_of count = if nat_lt 0 count then Some count else None
+
+-- so many seconds, in nanoseconds
+abbrev pub nanoseconds : ℕ → ℕ
+nanoseconds seconds = seconds * 1_000_000_000
+
+-- Connections are given up as the words of a service ask: how long ARTIM runs (PS3.8 section
+-- 9.1.5), how long nothing may pass, and how many there may be of an address.
+pub record AreLimits (service : Service) (limits : Limits) : Type 0 where
+  pub artim : option_map as_nanos limits.artim ≡ option_map nanoseconds (limit_of service.artim)
+  pub quiet : option_map as_nanos limits.quiet ≡ option_map nanoseconds service.quiet
+  pub peers : limits.peer_connections ≡ limit_of service.peer_connections
+
+-- Wires listen where these words say, with their limits.
+abbrev pub ListensAs : {Wired : Type 0} → (Wired → List ℕ → ℕ → Limits → Type 0) → Service → Wired
+    → Type 0
+ListensAs listens service wires = (limits : Limits) × AreLimits service limits
+    × listens wires service.address service.port limits
+
+-- Callers come in where these words say.
+abbrev pub AdmitsAs : {Wired : Type 0} → (Wired → Option (List ℕ) → Option WebFront → Type 0)
+    → Service → Wired → Type 0
+AdmitsAs admits service wires = admits wires service.console service.web
 
 -- wires that were not called, as far as they tell
 abbrev pub IsUncalled : Option (List Call) → Type 0
@@ -52,6 +83,19 @@ abbrev pub Attended : {Tables : Type 0} → (Tables → State) → Turning Table
     → List Act → Type 0
 Attended state old new orders =
     (log : Option (List Call)) → WentOn state log log old new orders
+
+-- Whatever serving had come to `old`, from rows that were there and by acts: they are so. The calls
+-- of the wires had gone on to `now`.
+abbrev pub HoldsAt : {Tables : Type 0} → (Tables → State) → Option (List Call) → Turning Tables
+    → (List Institution → List Row → List Act → Type 0) → Type 0
+HoldsAt {Tables} state now old AreSo = AreHonest state → (rows : List Row)
+    (start : Option (List Call)) (first : Standing Tables) (done : List Act)
+    → Serving state rows start now first old.server old.hold done
+    → AreSo first.institutions rows done
+
+abbrev pub Holds : {Tables : Type 0} → (Tables → State) → Turning Tables
+    → (List Institution → List Row → List Act → Type 0) → Type 0
+Holds state old AreSo = (now : Option (List Call)) → HoldsAt state now old AreSo
 
 -- ---- rounds
 
@@ -92,6 +136,15 @@ callers_left callers (Plain turn ∷ rounds) = callers_left callers rounds
 callers_left callers (Consoled turn attending ∷ rounds) =
     callers_left (after_attending attending) rounds
 
+-- In each round callers of the console are told of the rows as they are then.
+abbrev pub RoundsTell : List Institution → List (List ℕ) → List Row → List Act → List Round → Type 0
+RoundsTell institutions names rows done [] = Unit {0}
+RoundsTell institutions names rows done (Plain turn ∷ rounds) =
+    RoundsTell institutions names rows (done ++ round_acts (Plain turn)) rounds
+RoundsTell institutions names rows done (Consoled turn attending ∷ rounds) =
+    VisitsTell institutions names rows (done ++ Turned turn ∷ []) attending.visits
+    × RoundsTell institutions names rows (done ++ round_acts (Consoled turn attending)) rounds
+
 -- ---- where a service is stopped, and why
 
 -- The part of a round at which a service was stopped.
@@ -113,6 +166,12 @@ halt_cut (AtConsole turn it) = NoRoom
 abbrev pub halt_calls : Halt → List Call
 halt_calls (InTurn cut) = []
 halt_calls (AtConsole turn it) = interruption_calls it
+
+-- Up to there callers of the console are told of the rows as they are.
+abbrev pub HaltTells : List Institution → List (List ℕ) → List Row → List Act → Halt → Type 0
+HaltTells institutions names rows done (InTurn cut) = Unit {0}
+HaltTells institutions names rows done (AtConsole turn it) =
+    VisitsTell institutions names rows (done ++ Turned turn ∷ []) it.visits
 
 -- It is one for these callers of the console.
 abbrev pub IsHalt : List Calling → Halt → Type 0
@@ -152,56 +211,67 @@ IsUnheard breaks other = ⊥
 
 -- Without a console rounds are plain. With one, over wires which were not called before, the calls
 -- of these are exactly those of its turns: so each order is told by a line that a caller sent, and
--- is answered by the line of its reply.
-module _ {Wired : Type 0} (log : Wired → Option (List Call)) where
+-- is answered by the line of its reply. A search is answered by what the institution that its line
+-- names is shown of the rows as they are then, and a report counts them. The wires were opened so
+-- (`AreSo`).
+module _ {Wired : Type 0} (log : Wired → Option (List Call)) (AreSo : Wired → Type 0)
+    (institutions : List Institution) (rows : List Row) where
   abbrev pub HasConsole : Option (List ℕ) → List Round → Type 0
   HasConsole None rounds = ArePlain rounds
   HasConsole (Some path) rounds = (wires : Wired) × (left : Wired)
-      × IsUncalled (log wires) × AreConsoled [] rounds
+      × IsUncalled (log wires) × AreSo wires × AreConsoled [] rounds
       × LogsAll (log wires) (log left) (flat_map console_calls rounds)
+      × RoundsTell institutions (names_of institutions) rows [] rounds
 
--- Acts were done, from rows that were there, over wires that were not called before. A cut may follow:
--- the part of a turn that a fault ends (`NoRoom` is none). The calls are exactly these, and what was
--- answered is what the plain server answers.
-pub record AreServed {Wired : Type 0} (log : Wired → Option (List Call))
+-- Acts were done, from rows that were there, over wires that are so and were not called before. A cut
+-- may follow: the part of a turn that a fault ends (`NoRoom` is none). The calls are exactly these, and
+-- what was answered is what the plain server answers.
+pub record AreServed {Wired : Type 0} (log : Wired → Option (List Call)) (AreSo : Wired → Type 0)
     (institutions : List Institution) (rows : List Row) (acts : List Act) (cut : Cut) : Type 0 where
   pub wires : Wired
   pub left : Wired
   pub uncalled : IsUncalled (log wires)
+  pub so : AreSo wires
   pub are : AreActs nothing_held acts
   pub fits : IsCut (after_acts nothing_held acts) cut
   pub calls : LogsAll (log wires) (log left) (flat_map act_calls acts ++ cut_calls cut)
   pub answered : replies_of (served_steps acts cut)
       ≡ replies institutions rows (served_events acts cut)
 
--- So many rounds were made and served.
-pub record Served {Wired : Type 0} (log : Wired → Option (List Call))
+-- So many rounds were made and served. The rows that are kept are those after their events.
+pub record Served {Wired : Type 0} (log : Wired → Option (List Call)) (Listens Admits : Wired → Type 0)
     (institutions : List Institution) (rows : List Row) (count : ℕ)
-    (console : Option (List ℕ)) : Type 0 where
+    (console : Option (List ℕ)) (kept : List Row) : Type 0 where
   pub rounds : List Round
   pub counted : length rounds ≡ count
-  pub served : AreServed log institutions rows (rounds_acts rounds) NoRoom
-  pub consoled : HasConsole log console rounds
+  pub served : AreServed log Listens institutions rows (rounds_acts rounds) NoRoom
+  pub consoled : HasConsole log Admits institutions rows console rounds
+  pub leaves : kept ≡ rows_after institutions rows (rounds_acts rounds)
 
 -- The console of a service that was stopped: its calls are exactly those of the rounds, and of the
--- part of one.
-module _ {Wired : Type 0} (log : Wired → Option (List Call)) where
+-- part of one, and so is what was told.
+module _ {Wired : Type 0} (log : Wired → Option (List Call)) (AreSo : Wired → Type 0)
+    (institutions : List Institution) (rows : List Row) where
   abbrev pub HasConsoleTo : Option (List ℕ) → List Round → Halt → Type 0
   HasConsoleTo None rounds halt = ArePlainTo rounds halt
   HasConsoleTo (Some path) rounds halt = (wires : Wired) × (left : Wired)
-      × IsUncalled (log wires) × AreConsoled [] rounds × IsHalt (callers_left [] rounds) halt
+      × IsUncalled (log wires) × AreSo wires × AreConsoled [] rounds × IsHalt (callers_left [] rounds) halt
       × LogsAll (log wires) (log left) (flat_map console_calls rounds ++ halt_calls halt)
+      × RoundsTell institutions (names_of institutions) rows [] rounds
+      × HaltTells institutions (names_of institutions) rows (rounds_acts rounds) halt
 
 -- Rounds were made, at most so many, and the next was stopped, for this cause.
-pub record ServedUpTo {Wired : Type 0} (log : Wired → Option (List Call)) (breaks : Type 0)
+pub record ServedUpTo {Wired : Type 0} (log : Wired → Option (List Call))
+    (Listens Admits : Wired → Type 0) (breaks : Type 0)
     (institutions : List Institution) (rows : List Row) (count : ℕ)
     (console : Option (List ℕ)) (cause : Stop) : Type 0 where
   pub rounds : List Round
   pub most : length rounds ≤ count
   pub halt : Halt
   pub causes : HasCause breaks (halt_cut halt) cause
-  pub served : AreServed log institutions rows (rounds_acts rounds ++ halt_acts halt) (halt_cut halt)
-  pub consoled : HasConsoleTo log console rounds halt
+  pub served : AreServed log Listens institutions rows (rounds_acts rounds ++ halt_acts halt)
+      (halt_cut halt)
+  pub consoled : HasConsoleTo log Admits institutions rows console rounds halt
 
 -- How a service ends early: for want of memory, for the keys of its web front, or because nobody can
 -- come in, before it was ready; for a cause after it was, and what went before is so; because the output fails, after some octets
@@ -220,15 +290,18 @@ module _ (breaks may_fail : Type 0) (before after : Option (List ℕ)) (port : �
   EndsService other = ⊥
 
 module _ {Wired : Type 0} (log : Wired → Option (List Call))
+    (listens : Wired → List ℕ → ℕ → Limits → Type 0)
+    (admits : Wired → Option (List ℕ) → Option WebFront → Type 0)
     (held : List ℕ → Option (List ℕ)) (stored : List ℕ → Option (List Row))
     (before after : Option (List ℕ)) (serving : Service) where
-  -- So many turns were made as are asked for, over wires that had not been called, after the line
-  -- was printed, and nothing else.
+  -- So many turns were made as are asked for, over wires that listen where that is asked for and had
+  -- not been called, after the line was printed, and nothing else. A store that is closed has the rows after them.
   abbrev pub IsServed : (List Row → Type 0) → Type 0
   IsServed closed = Appends before after (ready_text serving.port)
       × ((institutions : List Institution) × IsConfigured held serving.config institutions
-      × IfSome (rows_at stored serving.place) (λ rows.
-      Served log institutions rows (turn_count serving.turns) (callers_of serving)))
+      × IfSome (rows_at stored serving.place) (λ rows. (kept : List Row)
+      × Served log (ListensAs listens serving) (AdmitsAs admits serving) institutions rows (turn_count serving.turns) (callers_of serving) kept
+      × (IsInStore serving.place → closed kept)))
       × ClosesAt serving.place closed (λ _. Unit {0})
 
   -- What a service stops by: a refused configuration or store, where nothing was printed, or an
@@ -239,5 +312,6 @@ module _ {Wired : Type 0} (log : Wired → Option (List Call))
       ⊎ ((institutions : List Institution) × IsConfigured held serving.config institutions
       × ((Keeps before after × RefusesStore cause)
       ⊎ EndsService breaks may_fail before after serving.port (λ why.
-      IfSome (rows_at stored serving.place) (λ rows. ServedUpTo log breaks institutions rows
+      IfSome (rows_at stored serving.place) (λ rows. ServedUpTo log
+      (ListensAs listens serving) (AdmitsAs admits serving) breaks institutions rows
       (turn_count serving.turns) (callers_of serving) why)) cause))

@@ -1,15 +1,13 @@
 //! The console: orders of the worklist, reports, copies of the store and searches, that are asked for
 //! by lines over wires of their own.
-ghost use Rattle.std.specs.Prelude.{◌≡◌, ℕ, List, [], ◌++◌, codes, IfOk, IfErr, OnOk, OnErr, MatchBool, MatchOption};
+ghost use Rattle.std.specs.Prelude.{◌≡◌, ℕ, List, [], ◌++◌, codes, option_map, string_bytes, IfOk, IfErr, OnOk, OnErr, MatchBool, MatchOption};
 ghost use Rattle.dq_core.specs.Looking.{Looked};
-ghost use Rattle.dq_wires.specs.Logs.{LogsAll};
 ghost use Rattle.dq_wires.specs.Turners.{IsOrder};
 ghost use Rattle.dq_program.specs.declared.desk.Line.{Line};
 ghost use Rattle.dq_program.specs.Backups.{backup_text};
-ghost use Rattle.dq_program.specs.Console.{Attending, IsAttending, attending_calls, attending_acts, after_attending};
-ghost use Rattle.dq_program.specs.Desk.{TellsLine, HasOrders, is_bad, BacksUp, Answered, LooksInPart, Unanswered};
-ghost use Rattle.dq_program.specs.Heeding.{DoesIf, Halted, HaltedAt, Heeded, Visited, AllVisited, SomeVisited, Interrupted, LetsIn};
-ghost use Rattle.dq_program.specs.Serving.{Attended, IsConsoleStop};
+ghost use Rattle.dq_program.specs.Desk.{TellsLine, HasOrders, is_bad, IsNameNoted, NotesLine, BacksUp, Answered, LooksInPart, Unanswered};
+ghost use Rattle.dq_program.specs.Heeding.{DoesIf, Halted, HaltedAt, Heeded, Visited, AllVisited, SomeVisited, Attends, Interrupted, LetsIn};
+ghost use Rattle.dq_program.specs.Serving.{IsConsoleStop};
 
 use crate::backup::{Backups, Copying};
 use crate::caller::{Caller, Next};
@@ -22,7 +20,7 @@ use dq_core::laws::looks_are_one_look;
 use dq_core::{Event, Fault};
 use dq_list::Listed;
 use dq_tables::{Kind, Tables};
-use dq_wires::laws::calls_are_a_serving;
+use dq_wires::laws::{calls_are_a_serving, servings_are_answered, steps_are_a_history};
 use dq_wires::{READ_MOST, Turner, WireFault, Wires};
 use std::alloc::{AllocError, Global};
 use std::mem;
@@ -198,21 +196,43 @@ fn line_in(alloc: Global, octets: &[u8]) -> Result<Line, AllocError>
     }
 }
 
-/// What a note says of a line before its answer: an order's word and institution, or that of a copy.
-/// There is no note of a report, nor of a search. An entry is not told, nor whose it is.
-fn note_of(alloc: Global, line: &Line) -> Result<Option<String>, AllocError> {
-    match line {
-        Line::Order(Event::Schedule { inst, octets: _ }) => {
-            let name = str::from_utf8(inst.as_slice()).unwrap_or("-");
+/// The name of an institution in a note, and `-` if it is no text.
+fn noted_name(octets: &[u8]) -> &str
+    ensures { IsNameNoted octets.now result.now }
+{
+    match str::from_utf8(octets) {
+        Ok(name) => name,
+        Err(_) => "-",
+    }
+}
+
+/// What a note says of an order before its answer: its word and its institution.
+fn order_note(alloc: Global, event: &Event) -> Result<Option<String>, AllocError>
+    ensures { IfOk result (λ note. NotesLine (Line.Order event.now) (option_map string_bytes note)) }
+{
+    match event {
+        Event::Schedule { inst, octets: _ } => {
+            let name = noted_name(inst.as_slice());
             Ok(Some(format!(in alloc; "schedule {name} ")?))
         }
-        Line::Order(Event::Withdraw { inst, id: _ }) => {
-            let name = str::from_utf8(inst.as_slice()).unwrap_or("-");
+        Event::Withdraw { inst, id: _ } => {
+            let name = noted_name(inst.as_slice());
             Ok(Some(format!(in alloc; "withdraw {name} ")?))
         }
+        Event::Open(_) | Event::Piece(..) | Event::End(_) | Event::Pull(_) => Ok(None),
+    }
+}
+
+/// What a note says of a line before its answer: an order's word and institution, or that of a copy.
+/// There is no note of a report, nor of a search. An entry is not told, nor whose it is.
+fn note_of(alloc: Global, line: &Line) -> Result<Option<String>, AllocError>
+    ensures { IfOk result (λ note. NotesLine line.now (option_map string_bytes note)) }
+{
+    match line {
+        Line::Order(event) => order_note(alloc, event),
         Line::Backup(_) => Ok(Some(String::from_str(alloc, "backup ")?)),
         Line::Bad => Ok(Some(String::new(alloc))),
-        Line::Order(_) | Line::Report | Line::Search(..) => Ok(None),
+        Line::Report | Line::Search(..) => Ok(None),
     }
 }
 
@@ -231,7 +251,7 @@ fn keep_note(notes: &mut String, note: Option<String>, answer: &[u8]) -> Result<
 pub struct Clerk<W> {
     alloc: Global,
     pub wires: W,
-    names: Vec<Listed<u8>>,
+    pub names: Vec<Listed<u8>>,
     buffer: Vec<u8>,
     notes: String,
 }
@@ -247,13 +267,16 @@ impl<W: Wires + Drop> Clerk<W> {
         turner: &mut Turner<T>,
         backups: &B,
     ) -> Result<bool, Stop>
-        ensures does { IfOk result (DoesIf T.state turner.old turner.new octets.now caller.old
-            caller.new) }
+        ensures does { IfOk result (DoesIf T.state self.old.names.items turner.old turner.new
+            octets.now caller.old caller.new) }
         ensures wires { self.new.wires ≡ self.old.wires }
+        ensures names { self.new.names.items ≡ self.old.names.items }
         ensures cut { OnErr result (Halted T.state turner.old turner.new octets.now) }
         ensures stops { IfErr result IsConsoleStop }
     {
         calls_are_a_serving::<T>();
+        steps_are_a_history::<T>();
+        servings_are_answered::<T>();
         let Ok(line) = line_in(self.alloc, octets) else {
             return Ok(false);
         };
@@ -275,8 +298,9 @@ impl<W: Wires + Drop> Clerk<W> {
         turner: &mut Turner<T>,
         backups: &B,
     ) -> Result<bool, Stop>
-        ensures went { IfOk result (Heeded T.state (W.log self.old.wires) (W.log self.new.wires)
-            turner.old turner.new caller.old caller.new) }
+        ensures went { IfOk result (Heeded T.state self.old.names.items (W.log self.old.wires)
+            (W.log self.new.wires) turner.old turner.new caller.old caller.new) }
+        ensures names { self.new.names.items ≡ self.old.names.items }
         ensures cut { OnErr result (HaltedAt T.state (W.log self.old.wires)
             (W.log self.new.wires) turner.old turner.new caller.old) }
         ensures stops { IfErr result IsConsoleStop }
@@ -300,8 +324,9 @@ impl<W: Wires + Drop> Clerk<W> {
         turner: &mut Turner<T>,
         backups: &B,
     ) -> Result<bool, Stop>
-        ensures went { IfOk result (Visited T.state (W.log self.old.wires) (W.log self.new.wires)
-            turner.old turner.new caller.old caller.new) }
+        ensures went { IfOk result (Visited T.state self.old.names.items (W.log self.old.wires)
+            (W.log self.new.wires) turner.old turner.new caller.old caller.new) }
+        ensures names { self.new.names.items ≡ self.old.names.items }
         ensures cut { OnErr result (HaltedAt T.state (W.log self.old.wires)
             (W.log self.new.wires) turner.old turner.new caller.old) }
         ensures stops { IfErr result IsConsoleStop }
@@ -346,6 +371,7 @@ impl<W: Wires + Drop> Desk<W> {
     /// The notes of the orders and bad lines since it was last asked, a line each.
     pub fn take_notes(&mut self) -> String
         ensures wires { self.new.clerk.wires ≡ self.old.clerk.wires }
+        ensures names { self.new.clerk.names.items ≡ self.old.clerk.names.items }
         ensures callers { self.new.callers.items ≡ self.old.callers.items }
     {
         mem::replace(&mut self.clerk.notes, String::new(self.clerk.alloc))
@@ -353,8 +379,9 @@ impl<W: Wires + Drop> Desk<W> {
 
     // Lets a caller in where there is room. One for whom there is no memory is let go.
     fn let_in(&mut self)
-        ensures { LetsIn (W.log self.old.clerk.wires) (W.log self.new.clerk.wires)
+        ensures lets { LetsIn (W.log self.old.clerk.wires) (W.log self.new.clerk.wires)
             self.old.callers.items self.new.callers.items }
+        ensures names { self.new.clerk.names.items ≡ self.old.clerk.names.items }
     {
         if self.callers.len() >= MOST_CALLERS {
             return;
@@ -377,11 +404,13 @@ impl<W: Wires + Drop> Desk<W> {
         turner: &mut Turner<T>,
         backups: &B,
     ) -> Result<(), Stop>
-        ensures went { OnOk result (AllVisited T.state (W.log self.old.clerk.wires)
-            (W.log self.new.clerk.wires) turner.old turner.new self.old.callers.items
-            self.new.callers.items) }
-        ensures cut { OnErr result (SomeVisited T.state (W.log self.old.clerk.wires)
-            (W.log self.new.clerk.wires) turner.old turner.new self.old.callers.items) }
+        ensures went { OnOk result (AllVisited T.state self.old.clerk.names.items
+            (W.log self.old.clerk.wires) (W.log self.new.clerk.wires) turner.old turner.new
+            self.old.callers.items self.new.callers.items) }
+        ensures names { OnOk result (self.new.clerk.names.items ≡ self.old.clerk.names.items) }
+        ensures cut { OnErr result (SomeVisited T.state self.old.clerk.names.items
+            (W.log self.old.clerk.wires) (W.log self.new.clerk.wires) turner.old turner.new
+            self.old.callers.items) }
         ensures stops { IfErr result IsConsoleStop }
     {
         let mut at = 0;
@@ -399,20 +428,20 @@ impl<W: Wires + Drop> Desk<W> {
     /// turn: what is not written of its answer is offered, or else a line is taken and answered,
     /// if one has come whole, or else is read. Nothing is asked of other connections. What fails of
     /// a caller, or of the wires, ends that caller alone: only a fault of the server, or want of
-    /// memory for an answer, ends more.
+    /// memory for an answer, ends more. A search is answered by what the institution that its line
+    /// names is shown of the rows as they are then, and a report counts these.
     pub fn turn<T: Tables, B: Backups<T>>(
         &mut self,
         turner: &mut Turner<T>,
         backups: &B,
     ) -> Result<(), Stop>
-        ensures went { OnOk result ((attending : Attending)
-            × IsAttending self.old.callers.items attending
-            × LogsAll (W.log self.old.clerk.wires) (W.log self.new.clerk.wires)
-            (attending_calls attending)
-            × Attended T.state turner.old turner.new (attending_acts attending)
-            × (self.new.callers.items ≡ after_attending attending)) }
-        ensures cut { OnErr result (Interrupted T.state (W.log self.old.clerk.wires)
-            (W.log self.new.clerk.wires) turner.old turner.new self.old.callers.items) }
+        ensures went { OnOk result (Attends T.state self.old.clerk.names.items
+            (W.log self.old.clerk.wires) (W.log self.new.clerk.wires) turner.old turner.new
+            self.old.callers.items self.new.callers.items) }
+        ensures names { OnOk result (self.new.clerk.names.items ≡ self.old.clerk.names.items) }
+        ensures cut { OnErr result (Interrupted T.state self.old.clerk.names.items
+            (W.log self.old.clerk.wires) (W.log self.new.clerk.wires) turner.old turner.new
+            self.old.callers.items) }
         ensures stops { IfErr result IsConsoleStop }
     {
         self.let_in();

@@ -1,8 +1,12 @@
 //! Where connections come in.
-ghost use Rattle.std.specs.Prelude.{◌≡◌, [], IfOk, IfSome, IsErrOf, OnErr};
+ghost use Rattle.std.specs.Prelude.{◌≡◌, ℕ, List, [], Option, option_map, IfOk, IfSome, IsErrOf, OnErr};
+ghost use Rattle.std.specs.Option.{option_copied};
+ghost use Rattle.dq_words.specs.Words.{WebFront, web_front_in};
+ghost use Rattle.dq_web.specs.KeyFiles.{AreSpelled};
+ghost use Rattle.dq_wires.specs.declared.given_up.Limits.{Limits};
 
 use crate::server_sockets::{AssociationSockets, CallerSockets, Counted, ServerSockets};
-use dq_captures::Host;
+use dq_captures::{Folder, Host, Unread};
 use dq_config::Institution;
 use dq_front::{Front, Site};
 use dq_list::Listed;
@@ -11,9 +15,9 @@ use dq_web::{Guard, Keys, KeysFault};
 use dq_wires::{AssociationLog, Called, Limits, LogEnd, LoggedWires, SocketWires, Turner};
 use dq_words::{VERSION, Web};
 use std::alloc::{AllocError, Global};
+use std::io;
 use std::net::{IpAddr, SocketAddr};
 use std::time::Duration;
-use std::{fs, io};
 
 /// A caller of the console or of the web front that says nothing for so many seconds is let go.
 const CALLER_QUIET: u64 = 60;
@@ -82,10 +86,18 @@ pub trait Network {
     /// It may be that nobody can be listened for, or waited for.
     ghost may_break: { Self → Type 0 };
 
+    /// Wires on which connections come in at an address and a port, and are given up by these limits.
+    ghost listens: { Self.Wired → List ℕ → ℕ → Limits → Type 0 };
+
+    /// Wires on which callers come in: of the console at a path, and of a web front.
+    ghost admits: { Self.Wired → Option (List ℕ) → Option WebFront → Type 0 };
+
     /// Listens at a port of an address. The wires were not called.
     fn listen(&self, alloc: Global, listening: Listening<'_>) -> Result<Self::Wired, Unheard>
         ensures uncalled { IfOk result (λ wires.
             IfSome (Self.Wired.log wires) (λ calls. calls ≡ [])) }
+        ensures listens { IfOk result (λ wires. listens wires listening.entry.address.now
+            listening.entry.port listening.entry.limits) }
         ensures failed { IsErrOf result Unheard.Failed → may_break self.now };
 
     /// Listens for callers, beside other wires: who rests over both is woken by either. The web front is
@@ -99,7 +111,11 @@ pub trait Network {
     ) -> Result<Self::Wired, Unheard>
         ensures beside { IfOk result (λ wires.
             IfSome (Self.Wired.log wires) (λ calls. calls ≡ [])) }
+        ensures admits { IfOk result (λ wires. admits wires (option_copied entrance.entry.console)
+            (option_map web_front_in entrance.entry.web)) }
         ensures same { Self.Wired.log wires.new ≡ Self.Wired.log wires.old }
+        ensures listens { (address : List ℕ) (port : ℕ) (limits : Limits) →
+            listens wires.old address port limits → listens wires.new address port limits }
         ensures failed { IsErrOf result Unheard.Failed → may_break self.now };
 
     /// Waits until something may be done over the wires, so long at most.
@@ -196,12 +212,15 @@ fn console_at(alloc: Global, rt: &HostRuntime, path: &str) -> Result<SocketWires
     }
 }
 
-// The keys of a file.
-fn keys_of(alloc: Global, rt: &HostRuntime, path: &str) -> Result<Keys, Unheard> {
-    let octets = match fs::read(rt, path) {
+/// The keys of a file.
+fn keys_of<F: Folder>(alloc: Global, folder: &F, path: &str) -> Result<Keys, Unheard>
+    ensures { IfOk result (λ keys. IfSome (F.held folder.now path.now) (λ octets.
+        AreSpelled octets keys.entries)) }
+{
+    let octets = match folder.read_file(alloc, path) {
         Ok(octets) => octets,
-        Err(error) if error.kind() == io::ErrorKind::OutOfMemory => return Err(Unheard::NoMemory),
-        Err(_) => return Err(Unheard::Keys(0)),
+        Err(Unread::NoMemory) => return Err(Unheard::NoMemory),
+        Err(Unread::Failed) => return Err(Unheard::Keys(0)),
     };
     let Ok(text) = str::from_utf8(octets.as_slice()) else {
         return Err(Unheard::Keys(0));
@@ -212,19 +231,29 @@ fn keys_of(alloc: Global, rt: &HostRuntime, path: &str) -> Result<Keys, Unheard>
     }
 }
 
-// The web front of institutions.
-fn front_at(
-    alloc: Global,
-    rt: &HostRuntime,
-    web: Web<'_>,
-    institutions: &[Institution],
-) -> Result<Front<SocketWires>, Unheard> {
-    let keys = keys_of(alloc, rt, web.keys)?;
+/// The guard of a web front: the keys of its file, and its host.
+fn guard_of<F: Folder>(alloc: Global, folder: &F, web: Web<'_>) -> Result<Guard, Unheard>
+    ensures keys { IfOk result (λ guard. IfSome (F.held folder.now web.entry.keys.now) (λ octets.
+        AreSpelled octets guard.keys.entries)) }
+    ensures host { IfOk result (λ guard. guard.host ≡ option_copied web.entry.host) }
+{
+    let keys = keys_of(alloc, folder, web.keys)?;
     let host = match web.host {
         Some(host) => Some(Listed::copy_of(alloc, host.as_bytes())?),
         None => None,
     };
-    let site = Site::new(alloc, Guard { keys, host }, institutions)?;
+    Ok(Guard { keys, host })
+}
+
+// The web front of institutions.
+fn front_at<H: Host>(
+    alloc: Global,
+    host: &H,
+    web: Web<'_>,
+    institutions: &[Institution],
+) -> Result<Front<SocketWires>, Unheard> {
+    let site = Site::new(alloc, guard_of(alloc, host, web)?, institutions)?;
+    let rt = host.runtime();
     let Ok(address) = web.address.parse::<IpAddr>() else {
         return Err(Unheard::Failed);
     };
@@ -242,9 +271,13 @@ fn watch(sockets: &mut AssociationSockets, others: &SocketWires) -> Result<(), U
 }
 
 impl<H: Host> Network for H {
-    type Wired = ServerSockets;
+    type Wired = ServerSockets<SocketWires>;
 
     ghost may_break = { λ _. Unit {0} };
+
+    ghost listens = { λ _ _ _ _. Unit {0} };
+
+    ghost admits = { λ _ _ _. Unit {0} };
 
     fn listen(&self, alloc: Global, listening: Listening<'_>) -> Result<Self::Wired, Unheard> {
         let Ok(address) = listening.address.parse::<IpAddr>() else {
@@ -280,7 +313,7 @@ impl<H: Host> Network for H {
             watch(sockets, console)?;
         }
         let front = match entrance.web {
-            Some(web) => Some(front_at(alloc, self.runtime(), web, institutions)?),
+            Some(web) => Some(front_at(alloc, self, web, institutions)?),
             None => None,
         };
         if let Some(front) = &front {

@@ -1,8 +1,9 @@
 //! Searches of the console: what an institution keeps, told as DICOM JSON, a line each.
-ghost use Rattle.std.specs.Prelude.{◌≡◌, ◌++◌, ℕ, List, IfOk, OnOk, OnErr, MatchOption, position, string_bytes};
+ghost use Rattle.std.specs.Prelude.{◌≡◌, ◌++◌, ℕ, List, IfOk, IfSome, OnOk, OnErr, MatchOption, position, string_bytes};
 ghost use Rattle.dq_core.specs.Looking.{Looked};
 ghost use Rattle.dq_core.specs.Showing.{found_for, steps_for};
-ghost use Rattle.dq_program.specs.Searching.{subject_word, is_space, name_in, status_digits, refused_text, refused_word, json_lines, answers_text, found_text, steps_text, kind_of, IsWanted, IsToldOf};
+ghost use Rattle.dq_program.specs.Searching.{subject_word, is_space, name_in, words_in, status_digits, refused_text, refused_word, json_lines, answers_text, found_text, steps_text, kind_of, IsWanted, IsToldOf};
+ghost use Rattle.dq_program.specs.Asking.{IsIdentifierOf, level_of};
 ghost use Rattle.dq_program.specs.Desk.{LooksInPart};
 
 use crate::asking::{Asking, asking_of};
@@ -42,7 +43,9 @@ impl Subject {
     }
 
     /// The Query/Retrieve Level, where there is one.
-    fn level(self) -> &'static [u8] {
+    fn level(self) -> &'static [u8]
+        ensures { result.now ≡ level_of self }
+    {
         match self {
             Subject::Studies => b"STUDY ",
             Subject::Series => b"SERIES",
@@ -111,7 +114,9 @@ fn first_space(octets: &[u8]) -> Option<usize>
 }
 
 /// The words behind it.
-fn words_in(rest: &str) -> &str {
+fn words_in(rest: &str) -> &str
+    ensures { result.now ≡ words_in rest.now }
+{
     match rest.split_once(' ') {
         Some((_, words)) => words,
         None => "",
@@ -194,7 +199,10 @@ fn identifier_of(
     alloc: Global,
     subject: Subject,
     asking: &Asking,
-) -> Result<Option<DataSet>, AllocError> {
+) -> Result<Option<DataSet>, AllocError>
+    ensures { IfOk result (λ identifier. IfSome identifier
+        (IsIdentifierOf subject asking.now.keys.items)) }
+{
     let identifier = match subject {
         Subject::Worklist => asking.worklist_identifier(alloc),
         _ => asking.study_identifier(alloc, subject.level()),
@@ -267,14 +275,15 @@ enum Wanted {
 
 /// A word that is refused.
 fn unwanted(alloc: Global, word: &str) -> Result<Wanted, AllocError>
-    ensures { IfOk result (λ wanted. (subject : Subject) → IsWanted subject wanted) }
+    ensures { IfOk result (λ wanted. (subject : Subject) (rest : List ℕ) →
+        IsWanted subject rest wanted) }
 {
     Ok(Wanted::Refused(refused_word(alloc, word)?))
 }
 
 /// What stands behind the word of a line wants.
 fn wanted_by(alloc: Global, subject: Subject, rest: &str) -> Result<Wanted, AllocError>
-    ensures { IfOk result (IsWanted subject) }
+    ensures { IfOk result (IsWanted subject rest.now) }
 {
     let asking = match asking_of(alloc, words_in(rest))? {
         Ok(asking) => asking,

@@ -9,7 +9,7 @@ use dq_front::Front;
 use dq_tables::Tables;
 use dq_web::{Counters, Service as CountedService};
 use dq_wires::{
-    Called, LogEnd, LoggedWires, MOST_WIRES, ReadTurn, SocketClient, SocketWires, Turner,
+    Called, GivesUp, LogEnd, LoggedWires, MOST_WIRES, ReadTurn, SocketClient, SocketWires, Turner,
     WireFault, Wires,
 };
 use std::alloc::Global;
@@ -22,27 +22,27 @@ const MOST_BESIDE_FRONT: usize = 7;
 /// The octets of a page of memory.
 const PAGE_OCTETS: u64 = 4096;
 
-/// Sockets of the program.
+/// Wires of the program, over sockets.
 #[derive(Drop)]
-pub enum ServerSockets {
+pub enum ServerSockets<W> {
     /// Those on which associations come.
-    Associations(AssociationSockets),
+    Associations(AssociationSockets<W>),
     /// Those of callers of the console and of the web front.
-    Callers(CallerSockets),
+    Callers(CallerSockets<W>),
 }
 
 /// Sockets whose connections are told of in a log, if there is one, and counted, if that is asked.
 #[derive(Drop)]
-pub struct AssociationSockets {
-    pub logged: LoggedWires<SocketWires, LogEnd>,
+pub struct AssociationSockets<W> {
+    pub logged: LoggedWires<W, LogEnd>,
     pub counted: Option<Counted>,
 }
 
 /// The sockets of the console and the web front, as far as they are there.
 #[derive(Drop)]
-pub struct CallerSockets {
-    console: Option<SocketWires>,
-    front: Option<Front<SocketWires>>,
+pub struct CallerSockets<W> {
+    console: Option<W>,
+    front: Option<Front<W>>,
     // How many callers of the console there are.
     calling: usize,
 }
@@ -138,7 +138,7 @@ impl Counted {
     }
 }
 
-impl AssociationSockets {
+impl<W> AssociationSockets<W> {
     /// Tells the log what was served since this was last asked, and counts it.
     pub fn tell<T: Tables>(&mut self, turner: &mut Turner<T>, clock: &HostRuntime)
         ensures { turner.new ≡ turner.old }
@@ -156,9 +156,9 @@ impl AssociationSockets {
     }
 }
 
-impl CallerSockets {
+impl<W: Wires + Drop> CallerSockets<W> {
     /// The sockets of a console and of a web front, as far as they are there.
-    pub fn new(console: Option<SocketWires>, front: Option<Front<SocketWires>>) -> Self {
+    pub fn new(console: Option<W>, front: Option<Front<W>>) -> Self {
         CallerSockets {
             console,
             front,
@@ -168,7 +168,7 @@ impl CallerSockets {
 
     /// The turn of the web front. A request for metrics is answered by the counts of what was served.
     /// The notes go to the log.
-    pub fn attend(&mut self, beside: &mut AssociationSockets, rt: &HostRuntime) {
+    pub fn attend(&mut self, beside: &mut AssociationSockets<W>, rt: &HostRuntime) {
         let Some(front) = &mut self.front else {
             return;
         };
@@ -186,6 +186,13 @@ impl CallerSockets {
         }
     }
 
+    // Whether a further caller of the console has a place.
+    fn has_room(&self) -> bool {
+        self.front.is_none() || self.calling < MOST_BESIDE_FRONT
+    }
+}
+
+impl CallerSockets<SocketWires> {
     /// Whether there is something to do that no octet has to come for, or was in this turn.
     pub fn is_busy(&self) -> bool {
         let is_called = match &self.console {
@@ -218,19 +225,14 @@ impl CallerSockets {
         }
         Ok(())
     }
-
-    // Whether a further caller of the console has a place.
-    fn has_room(&self) -> bool {
-        self.front.is_none() || self.calling < MOST_BESIDE_FRONT
-    }
 }
 
-impl Wires for CallerSockets {
+impl<W: Wires + Drop> Wires for CallerSockets<W> {
     ghost use Rattle.std.specs.Prelude.{None, option_map, unwrap_or};
 
     ghost log = { λ _. None };
 
-    ghost failed_accepts = { λ sockets. unwrap_or (option_map (⟦<SocketWires as Wires>⟧.failed_accepts) sockets.console) 0 };
+    ghost failed_accepts = { λ sockets. unwrap_or (option_map W.failed_accepts sockets.console) 0 };
 
     fn accept(&mut self) -> Result<Option<usize>, WireFault> {
         if let Some(front) = &mut self.front {
@@ -291,15 +293,18 @@ impl Wires for CallerSockets {
     }
 }
 
-impl Wires for ServerSockets {
+impl<W: Wires + GivesUp + Drop> Wires for ServerSockets<W> {
     ghost use Rattle.std.specs.Prelude.{None};
     ghost use Rattle.dq_program.specs.declared.server_sockets.ServerSockets.TheVariants.{Associations, Callers};
 
-    ghost log = { λ _. None };
+    ghost log = { λ sockets. elim sockets [
+      | Associations it ↦ W.log it.logged.wires
+      | Callers it ↦ None
+    ] };
 
     ghost failed_accepts = { λ sockets. elim sockets [
-      | Associations it ↦ ⟦<SocketWires as Wires>⟧.failed_accepts it.logged.wires
-      | Callers it ↦ ⟦<CallerSockets as Wires>⟧.failed_accepts it
+      | Associations it ↦ W.failed_accepts it.logged.wires
+      | Callers it ↦ ⟦<CallerSockets<W> as Wires>⟧.failed_accepts it
     ] };
 
     fn accept(&mut self) -> Result<Option<usize>, WireFault> {
@@ -331,7 +336,7 @@ impl Wires for ServerSockets {
     }
 }
 
-impl<H: Host> Called<H> for ServerSockets {
+impl<H: Host> Called<H> for ServerSockets<SocketWires> {
     fn connect(&self, machine: &H) -> Result<SocketClient, WireFault> {
         let ServerSockets::Associations(sockets) = self else {
             return Err(WireFault);

@@ -1,5 +1,6 @@
 //! Connections that come in, served.
-ghost use Rattle.std.specs.Prelude.{◌≡◌, List, [], None, IfErr, IfSome, OnOk, IfOk};
+ghost use Rattle.std.specs.Prelude.{◌≡◌, List, [], None, option_map, IfErr, IfSome, OnOk, IfOk};
+ghost use Rattle.std.specs.Duration.{as_nanos};
 ghost use Rattle.std.specs.Option.{option_copied};
 ghost use Rattle.std.specs.Io.KnownBytes.{Appends};
 ghost use Rattle.dq_config.specs.declared.config.Institution.{Institution};
@@ -7,10 +8,12 @@ ghost use Rattle.dq_core.specs.Standing.{StandsFor};
 ghost use Rattle.dq_wires.specs.Stepping.{Moves, Fails};
 ghost use Rattle.dq_wires.specs.Turns.{TurnsWent, TurnsCut};
 ghost use Rattle.dq_words.specs.Words.{place_asked, callers_of, serving_in};
+ghost use Rattle.dq_captures.specs.Reports.{names_of};
 ghost use Rattle.dq_captures.specs.Surroundings.{BreaksOff};
-ghost use Rattle.dq_program.specs.Program.{AreHonest, IsConfigured, rows_at, ClosesAt};
+ghost use Rattle.dq_tables.specs.declared.row.Row.{Row};
+ghost use Rattle.dq_program.specs.Program.{AreHonest, IsConfigured, IsInStore, rows_at, ClosesAt};
 ghost use Rattle.dq_program.specs.Rounds.{RoundsWent, RoundsCut, Beside, BesideCut};
-ghost use Rattle.dq_program.specs.Serving.{ready_text, turn_count, IsUncalled, ArePlain, ArePlainTo, IsUnheard, Served, ServedUpTo, EndsService, StopsService};
+ghost use Rattle.dq_program.specs.Serving.{ready_text, turn_count, limit_of, nanoseconds, AreLimits, ListensAs, AdmitsAs, IsUncalled, ArePlain, ArePlainTo, IsUnheard, Served, ServedUpTo, EndsService, StopsService};
 
 use crate::backup::{Backups, OfFiles, OfMemory};
 use crate::desk::Desk;
@@ -58,6 +61,11 @@ fn desk_beside<N: Network>(
     ensures same { N.Wired.log wires.new ≡ N.Wired.log wires.old }
     ensures uncalled { IfOk result (λ desk. IsUncalled (N.Wired.log desk.clerk.wires)) }
     ensures callers { IfOk result (λ desk. desk.callers.items ≡ []) }
+    ensures admits { IfOk result (λ desk. AdmitsAs N.admits (serving_in service.entry)
+        desk.clerk.wires) }
+    ensures listens { OnOk result (ListensAs N.listens (serving_in service.entry) wires.old →
+        ListensAs N.listens (serving_in service.entry) wires.new) }
+    ensures names { IfOk result (λ desk. desk.clerk.names.items ≡ names_of institutions.now) }
     ensures stops { IfErr result (IsUnheard (N.may_break network.now)) }
 {
     let entrance = Entrance {
@@ -68,23 +76,37 @@ fn desk_beside<N: Network>(
     Ok(Desk::new(alloc, beside, names_of(alloc, institutions)?)?)
 }
 
+/// A count, where it is limited: 0 is no limit.
+fn limit_of(count: u32) -> Option<u32>
+    ensures { result ≡ limit_of count }
+{
+    if count > 0 { Some(count) } else { None }
+}
+
+/// A number of seconds, if there is one.
+fn time_of(seconds: Option<u32>) -> Option<Duration>
+    ensures { option_map as_nanos result ≡ option_map nanoseconds seconds }
+{
+    let seconds = seconds?;
+    Some(Duration::from_secs(u64::from(seconds)))
+}
+
+/// How many connections of an address there may be.
+fn connections_of(count: u32) -> Option<usize>
+    ensures { result ≡ limit_of count }
+{
+    let count = limit_of(count)?;
+    Some(count as usize)
+}
+
 /// When the words of a service have connections given up.
-fn limits_of(service: Service<'_>) -> Limits {
+fn limits_of(service: Service<'_>) -> Limits
+    ensures { AreLimits (serving_in service.entry) result }
+{
     Limits {
-        artim: if service.artim > 0 {
-            Some(Duration::from_secs(u64::from(service.artim)))
-        } else {
-            None
-        },
-        quiet: match service.quiet {
-            Some(seconds) => Some(Duration::from_secs(u64::from(seconds))),
-            None => None,
-        },
-        peer_connections: if service.peer_connections > 0 {
-            Some(service.peer_connections as usize)
-        } else {
-            None
-        },
+        artim: time_of(limit_of(service.artim)),
+        quiet: time_of(service.quiet),
+        peer_connections: connections_of(service.peer_connections),
     }
 }
 
@@ -112,6 +134,7 @@ fn note_stop<N: Network>(network: &N, wires: &mut N::Wired, stop: Stop)
 /// Listens where the words of a service say.
 fn listen<N: Network>(alloc: Global, network: &N, service: Service<'_>) -> Result<N::Wired, Stop>
     ensures uncalled { IfOk result (λ wires. IsUncalled (N.Wired.log wires)) }
+    ensures listens { IfOk result (ListensAs N.listens (serving_in service.entry)) }
     ensures stops { IfErr result (IsUnheard (N.may_break network.now)) }
 {
     let listening = Listening {
@@ -187,12 +210,17 @@ fn turn_beside<N: Network, T: Tables, B: Backups<T>>(
     requires working { turner.old.fault ≡ None }
     ensures went { OnOk result (RoundsWent T.state (N.Wired.log reception.old.wires)
         (N.Wired.log reception.new.wires) turner.old turner.new 1
-        (Beside (N.Wired.log reception.old.desk.clerk.wires)
+        (Beside T.state reception.old.desk.clerk.names.items (N.Wired.log reception.old.wires)
+        turner.old (N.Wired.log reception.old.desk.clerk.wires)
         (N.Wired.log reception.new.desk.clerk.wires)
         reception.old.desk.callers.items reception.new.desk.callers.items)) }
+    ensures names { OnOk result
+        (reception.new.desk.clerk.names.items ≡ reception.old.desk.clerk.names.items) }
     ensures cut { IfErr result (RoundsCut T.state (N.may_break network.now)
         (N.Wired.log reception.old.wires) (N.Wired.log reception.new.wires) turner.old
-        turner.new.server 1 (BesideCut (N.Wired.log reception.old.desk.clerk.wires)
+        turner.new.server 1 (BesideCut T.state
+        reception.old.desk.clerk.names.items (N.Wired.log reception.old.wires) turner.old
+        (N.Wired.log reception.old.desk.clerk.wires)
         (N.Wired.log reception.new.desk.clerk.wires) reception.old.desk.callers.items)) }
 {
     calls_are_a_serving::<T>();
@@ -243,12 +271,17 @@ fn turn_noted_beside<N: Network, T: Tables, B: Backups<T>>(
     requires working { turner.old.fault ≡ None }
     ensures went { OnOk result (RoundsWent T.state (N.Wired.log reception.old.wires)
         (N.Wired.log reception.new.wires) turner.old turner.new 1
-        (Beside (N.Wired.log reception.old.desk.clerk.wires)
+        (Beside T.state reception.old.desk.clerk.names.items (N.Wired.log reception.old.wires)
+        turner.old (N.Wired.log reception.old.desk.clerk.wires)
         (N.Wired.log reception.new.desk.clerk.wires)
         reception.old.desk.callers.items reception.new.desk.callers.items)) }
+    ensures names { OnOk result
+        (reception.new.desk.clerk.names.items ≡ reception.old.desk.clerk.names.items) }
     ensures cut { IfErr result (RoundsCut T.state (N.may_break network.now)
         (N.Wired.log reception.old.wires) (N.Wired.log reception.new.wires) turner.old
-        turner.new.server 1 (BesideCut (N.Wired.log reception.old.desk.clerk.wires)
+        turner.new.server 1 (BesideCut T.state
+        reception.old.desk.clerk.names.items (N.Wired.log reception.old.wires) turner.old
+        (N.Wired.log reception.old.desk.clerk.wires)
         (N.Wired.log reception.new.desk.clerk.wires) reception.old.desk.callers.items)) }
 {
     let turned = turn_beside(network, backups, turner, reception, rest);
@@ -314,12 +347,17 @@ fn serve_beside<N: Network, T: Tables, B: Backups<T>>(
     requires working { turner.old.fault ≡ None }
     ensures went { OnOk result (RoundsWent T.state (N.Wired.log reception.old.wires)
         (N.Wired.log reception.new.wires) turner.old turner.new pace.turns
-        (Beside (N.Wired.log reception.old.desk.clerk.wires)
+        (Beside T.state reception.old.desk.clerk.names.items (N.Wired.log reception.old.wires)
+        turner.old (N.Wired.log reception.old.desk.clerk.wires)
         (N.Wired.log reception.new.desk.clerk.wires)
         reception.old.desk.callers.items reception.new.desk.callers.items)) }
+    ensures names { OnOk result
+        (reception.new.desk.clerk.names.items ≡ reception.old.desk.clerk.names.items) }
     ensures cut { IfErr result (RoundsCut T.state (N.may_break network.now)
         (N.Wired.log reception.old.wires) (N.Wired.log reception.new.wires) turner.old
-        turner.new.server pace.turns (BesideCut (N.Wired.log reception.old.desk.clerk.wires)
+        turner.new.server pace.turns (BesideCut T.state
+        reception.old.desk.clerk.names.items (N.Wired.log reception.old.wires) turner.old
+        (N.Wired.log reception.old.desk.clerk.wires)
         (N.Wired.log reception.new.desk.clerk.wires) reception.old.desk.callers.items)) }
 {
     for _turn in 0..pace.turns {
@@ -346,7 +384,7 @@ fn put_ready<W: Sink>(port: u16, output: &mut W) -> Result<(), Stop>
 }
 
 /// Listens, prints that connections can come in, serves them by a server that was asked for nothing
-/// yet, and gives back what keeps the rows.
+/// yet, and gives back what keeps the rows, which are those after the events that were served.
 pub fn serve_by<N: AllocGlobal + Network, T: Tables + Drop, B: Backups<T>, W: Sink>(
     network: &N,
     backups: &B,
@@ -358,12 +396,14 @@ pub fn serve_by<N: AllocGlobal + Network, T: Tables + Drop, B: Backups<T>, W: Si
     ensures ready { OnOk result (Appends (W.written output.old) (W.written output.new)
         (ready_text service.entry.port)) }
     ensures flushed { OnOk result (W.is_flushed output.new) }
-    ensures served { AreHonest T.state → OnOk result (Served N.Wired.log server.institutions
-        (T.state server.tables).rows (turn_count service.entry.turns)
-        (callers_of (serving_in service.entry))) }
+    ensures served { AreHonest T.state → IfOk result (λ tables. Served N.Wired.log
+        (ListensAs N.listens (serving_in service.entry))
+        (AdmitsAs N.admits (serving_in service.entry)) server.institutions (T.state server.tables).rows (turn_count service.entry.turns)
+        (callers_of (serving_in service.entry)) (T.state tables).rows) }
     ensures ends { IfErr result (EndsService (N.may_break network.now) (W.may_fail output.old)
         (W.written output.old) (W.written output.new) service.entry.port (λ stop.
-        AreHonest T.state → ServedUpTo N.Wired.log (N.may_break network.now)
+        AreHonest T.state → ServedUpTo N.Wired.log (ListensAs N.listens (serving_in service.entry))
+        (AdmitsAs N.admits (serving_in service.entry)) (N.may_break network.now)
         server.institutions (T.state server.tables).rows (turn_count service.entry.turns)
         (callers_of (serving_in service.entry)) stop)) }
 {
@@ -403,11 +443,15 @@ pub fn serve<Rt: AllocGlobal + Folder + Stores + Network, W: Sink>(
     ensures served { OnOk result ((institutions : List Institution)
         × IsConfigured (Rt.held rt.now) (option_copied service.entry.config) institutions
         × IfSome (rows_at (Rt.stored rt.now) (place_asked service.entry.keeper)) (λ rows.
-        Served Rt.Wired.log institutions rows (turn_count service.entry.turns)
-        (callers_of (serving_in service.entry)))) }
+        (kept : List Row) × Served Rt.Wired.log (ListensAs Rt.listens (serving_in service.entry))
+        (AdmitsAs Rt.admits (serving_in service.entry)) institutions rows
+        (turn_count service.entry.turns)
+        (callers_of (serving_in service.entry)) kept
+        × (IsInStore (place_asked service.entry.keeper) → Rt.closed rt.now kept))) }
     ensures closed { OnOk result (ClosesAt (place_asked service.entry.keeper) (Rt.closed rt.now)
         (λ _. Unit {0})) }
-    ensures stops { IfErr result (StopsService Rt.Wired.log (Rt.held rt.now) (Rt.stored rt.now)
+    ensures stops { IfErr result (StopsService Rt.Wired.log Rt.listens Rt.admits (Rt.held rt.now)
+        (Rt.stored rt.now)
         (W.written output.old) (W.written output.new) (serving_in service.entry)
         (Rt.may_break rt.now) (Rt.may_fail rt.now) (W.may_fail output.old)) }
 {

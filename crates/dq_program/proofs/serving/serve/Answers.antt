@@ -2,7 +2,7 @@ use Rattle.std.proofs.Common.{IfSome, inr, refl}
 use Rattle.dq_words.specs.Words.{place_asked, callers_of, serving_in}
 use Rattle.dq_program.specs.declared.stop.Stop.{Stop}
 use Rattle.dq_program.specs.Program.{unclosed_store, rows_at, AreHonest}
-use Rattle.dq_program.specs.Serving.{turn_count, ServedUpTo}
+use Rattle.dq_program.specs.Serving.{turn_count, ListensAs, AdmitsAs, ServedUpTo}
 use Rattle.dq_program.proofs.Ends.{ends-so}
 use Rattle.dq_program.proofs.Inputs.{if_error}
 use Rattle.dq_program.proofs.Storing.{of_new, of_found}
@@ -20,7 +20,7 @@ returns-in_ok-close-in-New-clause-served g c =
       _,
       c.in_ok-config.ensures.read,
       rw c.in-New.is (of_new _ rows
-          (λ honest. rw (server.institutions, server.tables) at (c.in_ok-filled-in-New.ensures.served honest)) _
+          (λ honest. (_, rw (server.institutions, server.tables) at (c.in_ok-filled-in-New.ensures.served honest), λ is_in. c.in_ok-close-in-New.ensures)) _
           (λ known is. g.met.Rt.Stores.known_is_honest c.args.rt.now _ known is) c.in_ok-new_store-in-New.ensures.rows),
     )
 
@@ -36,19 +36,34 @@ returns-in_ok-close-in-Found-clause-served g c =
       _,
       c.in_ok-config.ensures.read,
       rw c.in-Found.is (of_found _ rows
-          (λ honest. rw (server.institutions, server.tables) at (c.in_ok-kept-in-Found.ensures.served honest)) _
+          (λ honest. (_, rw (server.institutions, server.tables) at (c.in_ok-kept-in-Found.ensures.served honest), λ is_in. c.in_ok-close-in-Found.ensures)) _
           (λ known is. g.met.Rt.Stores.known_is_honest c.args.rt.now _ known is) c.in_ok-store-in-Found.ensures.rows),
+    )
+
+pub returns-in_ok-serve_by-in-Memory-clause-served : goal.returns-in_ok-serve_by-in-Memory-clause-served
+returns-in_ok-serve_by-in-Memory-clause-served g c =
+    let server = c.in_ok-server-in-Memory.ensures in (
+      _,
+      c.in_ok-config.ensures.read,
+      rw c.in-Memory.is (
+        _,
+        rw (server.institutions, server.tables, c.in_ok-memory-in-Memory.ensures.rows) at
+            (c.in_ok-serve_by-in-Memory.ensures.served g.met.Rt.Stores.memory_is_honest),
+        λ is_in. absurd is_in,
+      ),
     )
 
 pub returns-in_err-serve_by-in-Memory-clause-stops : goal.returns-in_err-serve_by-in-Memory-clause-stops
 returns-in_err-serve_by-in-Memory-clause-stops g c =
     let server = c.in_ok-server-in-Memory.ensures in
     let state = g.Rt.Memory.Tables.state in
-    let IsSo : Stop → Type 0 = λ (why : Stop). AreHonest state → ServedUpTo g.Rt.Wired.Wires.log (g.Rt.Network.may_break c.args.rt.now)
+    let IsSo : Stop → Type 0 = λ (why : Stop). AreHonest state → ServedUpTo g.Rt.Wired.Wires.log
+    (ListensAs g.Rt.Network.listens (serving_in c.args.service)) (AdmitsAs g.Rt.Network.admits (serving_in c.args.service)) (g.Rt.Network.may_break c.args.rt.now)
     c.in_ok-server-in-Memory.server.institutions (state c.in_ok-server-in-Memory.server.tables).rows (turn_count c.args.service.turns)
     (callers_of (serving_in c.args.service)) why in
     let IsAlso : Stop → Type 0 = λ (why : Stop). IfSome (rows_at (g.Rt.Stores.stored c.args.rt.now) (place_asked c.args.service.keeper)) (λ rows.
-    ServedUpTo g.Rt.Wired.Wires.log (g.Rt.Network.may_break c.args.rt.now) c.in_ok-config.config rows (turn_count c.args.service.turns)
+    ServedUpTo g.Rt.Wired.Wires.log
+    (ListensAs g.Rt.Network.listens (serving_in c.args.service)) (AdmitsAs g.Rt.Network.admits (serving_in c.args.service)) (g.Rt.Network.may_break c.args.rt.now) c.in_ok-config.config rows (turn_count c.args.service.turns)
     (callers_of (serving_in c.args.service)) why) in
     if_error _ c.from_residual-in_err-serve_by-in-Memory.result _ c.from_residual-in_err-serve_by-in-Memory.ensures.1
     (inr (
@@ -62,11 +77,13 @@ pub returns-in_err-filled-in-New-clause-stops : goal.returns-in_err-filled-in-Ne
 returns-in_err-filled-in-New-clause-stops g c =
     let server = c.in_ok-server-in-New.ensures in
     let state = g.Rt.File.Tables.state in
-    let IsSo : Stop → Type 0 = λ (why : Stop). AreHonest state → ServedUpTo g.Rt.Wired.Wires.log (g.Rt.Network.may_break c.args.rt.now)
+    let IsSo : Stop → Type 0 = λ (why : Stop). AreHonest state → ServedUpTo g.Rt.Wired.Wires.log
+    (ListensAs g.Rt.Network.listens (serving_in c.args.service)) (AdmitsAs g.Rt.Network.admits (serving_in c.args.service)) (g.Rt.Network.may_break c.args.rt.now)
     c.in_ok-server-in-New.server.institutions (state c.in_ok-server-in-New.server.tables).rows (turn_count c.args.service.turns)
     (callers_of (serving_in c.args.service)) why in
     let IsAlso : Stop → Type 0 = λ (why : Stop). IfSome (rows_at (g.Rt.Stores.stored c.args.rt.now) (place_asked c.args.service.keeper)) (λ rows.
-    ServedUpTo g.Rt.Wired.Wires.log (g.Rt.Network.may_break c.args.rt.now) c.in_ok-config.config rows (turn_count c.args.service.turns)
+    ServedUpTo g.Rt.Wired.Wires.log
+    (ListensAs g.Rt.Network.listens (serving_in c.args.service)) (AdmitsAs g.Rt.Network.admits (serving_in c.args.service)) (g.Rt.Network.may_break c.args.rt.now) c.in_ok-config.config rows (turn_count c.args.service.turns)
     (callers_of (serving_in c.args.service)) why) in
     if_error _ c.from_residual-in_err-filled-in-New.result _ c.from_residual-in_err-filled-in-New.ensures.1
     (inr (
@@ -81,11 +98,13 @@ pub returns-in_err-kept-in-Found-clause-stops : goal.returns-in_err-kept-in-Foun
 returns-in_err-kept-in-Found-clause-stops g c =
     let server = c.in_ok-server-in-Found.ensures in
     let state = g.Rt.File.Tables.state in
-    let IsSo : Stop → Type 0 = λ (why : Stop). AreHonest state → ServedUpTo g.Rt.Wired.Wires.log (g.Rt.Network.may_break c.args.rt.now)
+    let IsSo : Stop → Type 0 = λ (why : Stop). AreHonest state → ServedUpTo g.Rt.Wired.Wires.log
+    (ListensAs g.Rt.Network.listens (serving_in c.args.service)) (AdmitsAs g.Rt.Network.admits (serving_in c.args.service)) (g.Rt.Network.may_break c.args.rt.now)
     c.in_ok-server-in-Found.server.institutions (state c.in_ok-server-in-Found.server.tables).rows (turn_count c.args.service.turns)
     (callers_of (serving_in c.args.service)) why in
     let IsAlso : Stop → Type 0 = λ (why : Stop). IfSome (rows_at (g.Rt.Stores.stored c.args.rt.now) (place_asked c.args.service.keeper)) (λ rows.
-    ServedUpTo g.Rt.Wired.Wires.log (g.Rt.Network.may_break c.args.rt.now) c.in_ok-config.config rows (turn_count c.args.service.turns)
+    ServedUpTo g.Rt.Wired.Wires.log
+    (ListensAs g.Rt.Network.listens (serving_in c.args.service)) (AdmitsAs g.Rt.Network.admits (serving_in c.args.service)) (g.Rt.Network.may_break c.args.rt.now) c.in_ok-config.config rows (turn_count c.args.service.turns)
     (callers_of (serving_in c.args.service)) why) in
     if_error _ c.from_residual-in_err-kept-in-Found.result _ c.from_residual-in_err-kept-in-Found.ensures.1
     (inr (

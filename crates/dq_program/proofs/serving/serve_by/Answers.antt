@@ -5,7 +5,7 @@ use Rattle.dq_wires.specs.Servings.{Serving}
 use Rattle.dq_words.specs.Words.{callers_of, serving_in}
 use Rattle.dq_program.specs.declared.stop.Stop.{Stop}
 use Rattle.dq_program.specs.Program.{AreHonest}
-use Rattle.dq_program.specs.Serving.{turn_count, ServedUpTo}
+use Rattle.dq_program.specs.Serving.{turn_count, ListensAs, AdmitsAs, rounds_acts, RoundsTell, HaltTells, ServedUpTo}
 use Rattle.dq_program.proofs.Ends.{keeps, unheard-ends, cut-ends}
 use Rattle.dq_program.proofs.Inputs.{if_error}
 use Rattle.dq_program.proofs.Serviced.{service-of, service-cut}
@@ -23,10 +23,10 @@ returns-in_ok-serve_alone-in-None-clause-served g c = λ honest.
     rw c.new-turner.ensures.hold (c.calls_are_a_serving.ensures.begins rows log turner.server stands) in
     let same : turner.server.institutions ≡ c.args.server.institutions = ap (λ (s : Standing g.row.T.Denot). s.institutions) start in
     let went = c.in_ok-serve_alone-in-None.ensures.went in
-    rw (sym c.callers_at.ensures ∙ ap option_copied c.in-None.is)
+    rw (sym c.callers_at.ensures ∙ ap option_copied c.in-None.is, c.into_tables.ensures, c.into_server.ensures)
     (service-of g.T.Tables.state rows g.N.Wired.Wires.log wires c.serve_alone.new.wires None c.args.server.institutions went.rounds
-    c.calls_are_a_serving.ensures.whole c.servings_are_answered.ensures.replies begun (honest _) same c.of-pace.ensures
-    c.in_ok-wires.ensures.uncalled went.counted went.so went.went)
+    c.calls_are_a_serving.ensures.whole c.servings_are_answered.ensures.replies c.servings_are_answered.ensures.rows begun (honest _) same
+    c.of-pace.ensures c.in_ok-wires.ensures.uncalled c.in_ok-wires.ensures.listens went.counted went.so went.went)
 
 pub returns-in_ok-serve_beside-in-Some-clause-served : goal.returns-in_ok-serve_beside-in-Some-clause-served
 returns-in_ok-serve_beside-in-Some-clause-served g c = λ honest.
@@ -41,34 +41,41 @@ returns-in_ok-serve_beside-in-Some-clause-served g c = λ honest.
     let same : turner.server.institutions ≡ c.args.server.institutions = ap (λ (s : Standing g.row.T.Denot). s.institutions) start in
     let went = c.in_ok-serve_beside-in-Some.ensures.went in
     let desk = c.in_ok-desk-in-Some.ensures in
-    rw (sym c.callers_at.ensures ∙ ap option_copied c.in-Some.is)
+    let told : RoundsTell turner.server.institutions c.in_ok-desk-in-Some.desk.clerk.names.items rows [] went.rounds =
+    went.so.tells honest rows log turner.server [] begun in
+    rw (sym c.callers_at.ensures ∙ ap option_copied c.in-Some.is, c.into_tables-in-Some.ensures, c.into_server-in-Some.ensures)
     (service-of g.T.Tables.state rows g.N.Wired.Wires.log wires c.serve_beside.new.reception.wires (Some _) c.args.server.institutions
-    went.rounds c.calls_are_a_serving.ensures.whole c.servings_are_answered.ensures.replies begun (honest _) same c.of-pace.ensures
-    (rw c.desk_beside.ensures.same c.in_ok-wires.ensures.uncalled) went.counted (
+    went.rounds c.calls_are_a_serving.ensures.whole c.servings_are_answered.ensures.replies c.servings_are_answered.ensures.rows begun (honest _)
+    same c.of-pace.ensures (rw c.desk_beside.ensures.same c.in_ok-wires.ensures.uncalled) (desk.listens c.in_ok-wires.ensures.listens) went.counted (
       c.in_ok-desk-in-Some.desk.clerk.wires,
       c.serve_beside.new.reception.desk.clerk.wires,
       desk.uncalled,
+      desk.admits,
       rw desk.callers at went.so.are,
       went.so.calls,
+      rw (same, desk.names, c.institutions.ensures) at told,
     ) went.went)
 
 pub returns-in_err-wires-clause-ends : goal.returns-in_err-wires-clause-ends
 returns-in_err-wires-clause-ends g c =
-    let IsSo : Stop → Type 0 = λ (why : Stop). AreHonest g.T.Tables.state → ServedUpTo g.N.Wired.Wires.log (g.N.Network.may_break c.args.network.now)
+    let IsSo : Stop → Type 0 = λ (why : Stop). AreHonest g.T.Tables.state → ServedUpTo g.N.Wired.Wires.log
+    (ListensAs g.N.Network.listens (serving_in c.args.service)) (AdmitsAs g.N.Network.admits (serving_in c.args.service)) (g.N.Network.may_break c.args.network.now)
     c.args.server.institutions (g.T.Tables.state c.args.server.tables).rows (turn_count c.args.service.turns) (callers_of (serving_in c.args.service)) why in
     if_error _ c.from_residual.result _ c.from_residual.ensures.1
     (unheard-ends _ (g.W.Sink.may_fail c.args.output.now) _ _ c.args.service.port IsSo _ (keeps _) c.in_err-wires.ensures.stops)
 
 pub returns-in_err-desk-in-Some-clause-ends : goal.returns-in_err-desk-in-Some-clause-ends
 returns-in_err-desk-in-Some-clause-ends g c =
-    let IsSo : Stop → Type 0 = λ (why : Stop). AreHonest g.T.Tables.state → ServedUpTo g.N.Wired.Wires.log (g.N.Network.may_break c.args.network.now)
+    let IsSo : Stop → Type 0 = λ (why : Stop). AreHonest g.T.Tables.state → ServedUpTo g.N.Wired.Wires.log
+    (ListensAs g.N.Network.listens (serving_in c.args.service)) (AdmitsAs g.N.Network.admits (serving_in c.args.service)) (g.N.Network.may_break c.args.network.now)
     c.args.server.institutions (g.T.Tables.state c.args.server.tables).rows (turn_count c.args.service.turns) (callers_of (serving_in c.args.service)) why in
     if_error _ c.from_residual-in_err-desk-in-Some.result _ c.from_residual-in_err-desk-in-Some.ensures.1
     (unheard-ends _ (g.W.Sink.may_fail c.args.output.now) _ _ c.args.service.port IsSo _ (keeps _) c.in_err-desk-in-Some.ensures.stops)
 
 pub returns-in_err-serve_alone-in-None-clause-ends : goal.returns-in_err-serve_alone-in-None-clause-ends
 returns-in_err-serve_alone-in-None-clause-ends g c =
-    let IsSo : Stop → Type 0 = λ (why : Stop). AreHonest g.T.Tables.state → ServedUpTo g.N.Wired.Wires.log (g.N.Network.may_break c.args.network.now)
+    let IsSo : Stop → Type 0 = λ (why : Stop). AreHonest g.T.Tables.state → ServedUpTo g.N.Wired.Wires.log
+    (ListensAs g.N.Network.listens (serving_in c.args.service)) (AdmitsAs g.N.Network.admits (serving_in c.args.service)) (g.N.Network.may_break c.args.network.now)
     c.args.server.institutions (g.T.Tables.state c.args.server.tables).rows (turn_count c.args.service.turns) (callers_of (serving_in c.args.service)) why in
     let rows = (g.T.Tables.state c.args.server.tables).rows in
     let turner = c.new-turner.result in
@@ -83,11 +90,12 @@ returns-in_err-serve_alone-in-None-clause-ends g c =
     if_error _ c.from_residual-in_err-serve_alone-in-None.result _ c.from_residual-in_err-serve_alone-in-None.ensures.1
     (cut-ends _ (g.W.Sink.may_fail c.args.output.now) _ _ c.args.service.port IsSo _ _ c.in_ok-put_ready-in-None.ensures.ready off.causes (λ honest. rw (sym c.callers_at.ensures ∙ ap option_copied c.in-None.is)
     (service-cut g.T.Tables.state rows g.N.Wired.Wires.log wires c.serve_alone.new.wires None c.args.server.institutions
-    c.servings_are_answered.ensures.replies begun honest same c.of-pace.ensures c.in_ok-wires.ensures.uncalled off off.so)))
+    c.servings_are_answered.ensures.replies begun honest same c.of-pace.ensures c.in_ok-wires.ensures.uncalled c.in_ok-wires.ensures.listens off off.so)))
 
 pub returns-in_err-serve_beside-in-Some-clause-ends : goal.returns-in_err-serve_beside-in-Some-clause-ends
 returns-in_err-serve_beside-in-Some-clause-ends g c =
-    let IsSo : Stop → Type 0 = λ (why : Stop). AreHonest g.T.Tables.state → ServedUpTo g.N.Wired.Wires.log (g.N.Network.may_break c.args.network.now)
+    let IsSo : Stop → Type 0 = λ (why : Stop). AreHonest g.T.Tables.state → ServedUpTo g.N.Wired.Wires.log
+    (ListensAs g.N.Network.listens (serving_in c.args.service)) (AdmitsAs g.N.Network.admits (serving_in c.args.service)) (g.N.Network.may_break c.args.network.now)
     c.args.server.institutions (g.T.Tables.state c.args.server.tables).rows (turn_count c.args.service.turns) (callers_of (serving_in c.args.service)) why in
     let rows = (g.T.Tables.state c.args.server.tables).rows in
     let turner = c.new-turner-in-Some.result in
@@ -100,14 +108,19 @@ returns-in_err-serve_beside-in-Some-clause-ends g c =
     let same : turner.server.institutions ≡ c.args.server.institutions = ap (λ (s : Standing g.row.T.Denot). s.institutions) start in
     let off = c.in_err-serve_beside-in-Some.ensures.cut in
     let desk = c.in_ok-desk-in-Some.ensures in
+    let told : AreHonest g.T.Tables.state → RoundsTell turner.server.institutions c.in_ok-desk-in-Some.desk.clerk.names.items rows [] off.rounds
+    × HaltTells turner.server.institutions c.in_ok-desk-in-Some.desk.clerk.names.items rows (rounds_acts off.rounds) off.halt =
+    λ honest. off.so.tells honest rows log turner.server [] begun in
     if_error _ c.from_residual-in_err-serve_beside-in-Some.result _ c.from_residual-in_err-serve_beside-in-Some.ensures.1
     (cut-ends _ (g.W.Sink.may_fail c.args.output.now) _ _ c.args.service.port IsSo _ _ c.in_ok-put_ready-in-Some.ensures.ready off.causes (λ honest. rw (sym c.callers_at.ensures ∙ ap option_copied c.in-Some.is)
     (service-cut g.T.Tables.state rows g.N.Wired.Wires.log wires c.serve_beside.new.reception.wires (Some _) c.args.server.institutions
-    c.servings_are_answered.ensures.replies begun honest same c.of-pace.ensures (rw c.desk_beside.ensures.same c.in_ok-wires.ensures.uncalled) off (
+    c.servings_are_answered.ensures.replies begun honest same c.of-pace.ensures (rw c.desk_beside.ensures.same c.in_ok-wires.ensures.uncalled) (desk.listens c.in_ok-wires.ensures.listens) off (
       c.in_ok-desk-in-Some.desk.clerk.wires,
       c.serve_beside.new.reception.desk.clerk.wires,
       desk.uncalled,
+      desk.admits,
       rw desk.callers at off.so.are,
       rw desk.callers at off.so.is,
       off.so.calls,
+      rw (same, desk.names, c.institutions.ensures) at (told honest),
     ))))

@@ -17,7 +17,7 @@ returns-clause-went g c =
 pub returns-in_err-turn_told-clause-cut : goal.returns-in_err-turn_told-clause-cut
 returns-in_err-turn_told-clause-cut g c =
     if_error _ c.from_residual.result _ c.from_residual.ensures.1
-    (cut-turn g.T.Tables.state c.turn_told.new.turner (beside-cut-none _ _) c.calls_are_a_serving.ensures.cut c.in_err-turn_told.ensures.cut)
+    (cut-turn g.T.Tables.state c.turn_told.new.turner (beside-cut-none g.T.Tables.state _ _ _ _ _) c.calls_are_a_serving.ensures.cut c.in_err-turn_told.ensures.cut)
 
 pub returns-in_err-turn-clause-cut : goal.returns-in_err-turn-clause-cut
 returns-in_err-turn-clause-cut g c =
@@ -32,6 +32,6 @@ returns-then-is_err-clause-cut g c =
       c.note.ensures,
       c.rest_with.ensures.beside,
       c.take_notes-notes.ensures.wires,
-    ) (cut-after g.T.Tables.state {new = c.turn.new.turner} beside-cut-whole c.calls_are_a_serving.ensures.whole (search rules)
+    ) (cut-after g.T.Tables.state {new = c.turn.new.turner} (beside-cut-whole g.T.Tables.state _) c.calls_are_a_serving.ensures.whole (search rules)
     (beside-round g.T.Tables.state {mid = c.turn_told.new.turner} c.calls_are_a_serving.ensures.turns c.in_ok-turn.ensures.went
     c.in_ok-turn_told.ensures.went c.in_ok-turn_told.ensures.fault))

@@ -8,7 +8,7 @@ pub returns-then-is_sending : goal.returns-then-is_sending
 returns-then-is_sending g c =
     let sent = c.send.ensures in
     comes c.send.result c.of.result c.of.ensures
-    record { heed = Offered sent.0; is = c.if-is_sending.ensures; quiet = refl; calls = sent.1; leaves = sent.2 }
+    record { heed = Offered sent.0; is = c.if-is_sending.ensures; quiet = refl; tells = λ institutions names rows done. tt; calls = sent.1; leaves = sent.2 }
 
 pub returns-in-Ok-None : goal.returns-in-Ok-None
 returns-in-Ok-None g c =

@@ -1,12 +1,18 @@
 use Rattle.std.proofs.Common.{ap, ◌∙◌}
 use Rattle.dq_captures.proofs.Written.{OnErr-known}
-use Rattle.dq_program.proofs.Visiting.{heeded-line}
+use Rattle.dq_program.proofs.Visiting.{heeded-line, heeded-quiet}
 use Rattle.dq_program.proofs.desk.Clerk.heed.Goals as goal
+
+pub returns-in-Held-clause-went : goal.returns-in-Held-clause-went
+returns-in-Held-clause-went g c = heeded-quiet g.T.Tables.state _ c.in-Held.ensures
+
+pub returns-in-Left-clause-went : goal.returns-in-Left-clause-went
+returns-in-Left-clause-went g c = heeded-quiet g.T.Tables.state _ c.in-Left.ensures
 
 pub returns-else-not-branch-clause-went : goal.returns-else-not-branch-clause-went
 returns-else-not-branch-clause-went g c =
     let next = c.in-Line.ensures in
-    heeded-line g.T.Tables.state {new = c.obey.new.turner} {next = c.send.new.self} next.0 next.1 next.2 next.3
+    heeded-line g.T.Tables.state _ {new = c.obey.new.turner} {next = c.send.new.self} next.0 next.1 next.2 next.3
     (ap g.W.Wires.log c.obey.ensures.wires ∙ next.4)
     (rw (c.if-not-branch.false, c.as_slice.ensures.value) at c.in_ok-obey-in-Line.ensures.does) c.send.ensures
 

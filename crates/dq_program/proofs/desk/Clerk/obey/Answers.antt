@@ -5,9 +5,10 @@ use Rattle.dq_program.proofs.desk.Clerk.obey.Goals as goal
 pub returns-clause-does : goal.returns-clause-does
 returns-clause-does g c =
     let answered = c.in_ok-answer.ensures in
-    does-line g.T.Tables.state answered.hold answered.fault _ c.as_slice-names.result.now c.args.octets.now _ _ _ _ c.calls_are_a_serving.ensures.order
-    c.calls_are_a_serving.ensures.look c.put.ensures _ c.in-Ok.ensures.told c.in-Ok.ensures.orders
-    c.is_bad-is_last.ensures answered.answered
+    rw c.as_slice-names.ensures.value at
+    (does-line g.T.Tables.state answered.hold answered.fault _ c.as_slice-names.result.now c.args.octets.now _ _ _ _ c.calls_are_a_serving.ensures.order
+    c.calls_are_a_serving.ensures.look c.steps_are_a_history.ensures c.calls_are_a_serving.ensures.whole c.servings_are_answered.ensures.rows
+    c.put.ensures _ c.in-Ok.ensures.told c.in-Ok.ensures.orders c.is_bad-is_last.ensures answered.answered)
 
 pub returns-in_err-answer-clause-cut : goal.returns-in_err-answer-clause-cut
 returns-in_err-answer-clause-cut g c =
