@@ -1,49 +1,46 @@
 -- What is done for the octets that came of a connection.
-use Rattle.std.specs.Prelude.{◌≡◌, ◌⊎◌, ℕ, ◌++◌, Bool, true, IsTrue, List, codes}
+use Rattle.std.specs.Prelude.{◌≡◌, ◌⊎◌, ℕ, true, IsTrue, List, string_bytes}
 use Rattle.dq_web.specs.declared.asking.Asked.{Asked}
 use Rattle.dq_web.specs.declared.asking.Asked.TheVariants as asked
 use Rattle.dq_web.specs.declared.asking.Question.{Question}
 use Rattle.dq_web.specs.declared.cutting.Cut.TheVariants as cut
 use Rattle.dq_web.specs.declared.cutting.Head.{Head}
-use Rattle.dq_web.specs.declared.cutting.Request.{Request}
+use Rattle.dq_web.specs.declared.cutting.HttpRequest.{HttpRequest}
 use Rattle.dq_web.specs.declared.guard.Guard.{Guard}
 use Rattle.dq_web.specs.declared.refusal.Refusal.{Refusal}
 use Rattle.dq_web.specs.declared.replies.Framing.{Framing}
-use Rattle.dq_web.specs.declared.replies.Reply.{Reply}
-use Rattle.dq_web.specs.Answers.{IsResponse, IsDocument, IsHealthReply}
+use Rattle.dq_web.specs.declared.replies.Written.{Written}
+use Rattle.dq_web.specs.Answers.{IsWritten, refusal_reply, misspelled_reply, document_reply, health_reply}
 use Rattle.dq_web.specs.Asking.{IsAsked, IsQuestion, IsJudged}
 use Rattle.dq_web.specs.Requests.{IsCutOff, IsRequest, is_expecting, is_of_head}
-use Rattle.dq_web.specs.Responses.{refusal_status}
-use Rattle.dq_front.specs.declared.front.Answer.{Answer}
-use Rattle.dq_front.specs.declared.front.Deed.{Deed}
-use Rattle.dq_front.specs.declared.front.Deed.TheVariants as deed
-use Rattle.dq_front.specs.declared.front.Given.{Given}
-use Rattle.dq_front.specs.declared.front.Given.TheVariants as given
+use Rattle.dq_front.specs.declared.deeds.Answer.{Answer}
+use Rattle.dq_front.specs.declared.deeds.Deed.{Deed}
+use Rattle.dq_front.specs.declared.deeds.Deed.TheVariants as deed
+use Rattle.dq_front.specs.declared.deeds.Given.{Given}
+use Rattle.dq_front.specs.declared.deeds.Given.TheVariants as given
 
 -- the response to a refusal
-abbrev pub IsRefusal : Refusal → Framing → List ℕ → Type 0
-IsRefusal refusal framing octets =
-    IsResponse (λ (reply : Reply). reply.status ≡ refusal_status refusal) framing octets
+abbrev pub IsRefusal : Refusal → Framing → Written → Type 0
+IsRefusal refusal framing written = IsWritten (refusal_reply refusal) framing written
 
--- the response to what asks nothing of the console
-abbrev pub IsOwnResponse : Asked → Framing → List ℕ → Type 0
-IsOwnResponse (asked.Refused refusal) framing octets = IsRefusal refusal framing octets
-IsOwnResponse (asked.Document document) framing octets = IsResponse (IsDocument document) framing octets
-IsOwnResponse asked.Health framing octets = IsResponse IsHealthReply framing octets
-IsOwnResponse (asked.Question question) framing octets = ⊥
+-- the response to what asks nothing of the server
+abbrev pub IsOwnResponse : Asked → Framing → Written → Type 0
+IsOwnResponse (asked.Refused refusal) framing written = IsRefusal refusal framing written
+IsOwnResponse (asked.Misspelled word) framing written = IsWritten (misspelled_reply (string_bytes word)) framing written
+IsOwnResponse (asked.Document document) framing written = IsWritten (document_reply document) framing written
+IsOwnResponse asked.Health framing written = IsWritten health_reply framing written
+IsOwnResponse (asked.Question question) framing written = ⊥
 
--- A request is given the response to what it asks, or the console is asked what it asks, as a line: its key
--- opens the name of the question.
-abbrev pub IsGiven : Guard → Request → Framing → Given → Type 0
-IsGiven guard request framing (given.Response octets) =
-    (it : Asked) × IsAsked guard request it × IsOwnResponse it framing octets.items
+-- A request is given the response to what it asks, or the server is asked what it asks.
+abbrev pub IsGiven : Guard → HttpRequest → Framing → Given → Type 0
+IsGiven guard request framing (given.Response written) =
+    (it : Asked) × IsAsked guard request it × IsOwnResponse it framing written
 IsGiven guard request framing (given.Question question) = (it : Question)
-    × IsQuestion guard request it
-    × (question ≡ record it { line = it.line ++ codes "\n"; framing = framing })
+    × IsQuestion guard request it × (question ≡ record it { framing = framing })
 
 -- an answer is that of the request which stands at the front of the octets (RFC 9112)
 pub record IsAnswer (guard : Guard) (came : List ℕ) (answer : Answer) : Type 0 where
-  pub request : Request
+  pub request : HttpRequest
   pub framing : Framing
   pub stands : IsRequest came request
   pub last : framing.is_last ≡ request.head.is_last
@@ -62,6 +59,6 @@ abbrev pub IsDeed : Guard → List ℕ → Deed → Type 0
 IsDeed guard came deed.Wait =
     IsCutOff came cut.Unfinished ⊎ ((head : Head) × IsAwaited guard came head)
 IsDeed guard came deed.GoOn = (head : Head) × IsAwaited guard came head × IsTrue (is_expecting head)
-IsDeed guard came (deed.Refuse response) = (refusal : Refusal) × (framing : Framing)
-    × (framing.is_last ≡ true) × IsRefusal refusal framing response.items
+IsDeed guard came (deed.Refuse written) = (refusal : Refusal) × (framing : Framing)
+    × (framing.is_last ≡ true) × IsRefusal refusal framing written
 IsDeed guard came (deed.Answer answer) = IsAnswer guard came answer

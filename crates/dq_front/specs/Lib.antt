@@ -1,3 +1,5 @@
 pub mod Deeds
+pub mod Notes
 pub mod Sites
 pub mod Visits
+pub mod Waiting

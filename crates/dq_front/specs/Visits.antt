@@ -1,18 +1,77 @@
 -- What a connection of the web front reads and writes.
-use Rattle.std.specs.Prelude.{◌≡◌, ◌⊎◌, ℕ, ◌<◌, ◌≤◌, List, length, drop, Option, Some, None, Result}
+use Rattle.std.specs.Prelude.{◌≡◌, ◌⊎◌, ◌++◌, ◌&&◌, ℕ, ◌<◌, Bool, true, false, not, is_some, IsTrue, if◌then◌else◌, List, [], length, drop, Option, Some, None, Result}
 use Rattle.std.specs.Borrow.{Bor}
-use Rattle.dq_web.specs.declared.asking.Question.{Question}
+use Rattle.dq_config.specs.declared.config.Institution.{Institution}
+use Rattle.dq_list.specs.Lengths.{is_empty}
+use Rattle.dq_request.specs.declared.request.Request.{Request}
+use Rattle.dq_request.specs.declared.request.Request.TheVariants as request
+use Rattle.dq_request.specs.declared.response.Response.{Response}
+use Rattle.dq_web.specs.declared.guard.Guard.{Guard}
+use Rattle.dq_web.specs.declared.replies.Written.{Written}
+use Rattle.dq_web.specs.Answers.{IsReplyTo, IsResponse}
 use Rattle.dq_wires.specs.Logs.{Logs}
 use Rattle.dq_wires.specs.declared.calls.Call.{Call}
 use Rattle.dq_wires.specs.declared.calls.Call.TheVariants as call
 use Rattle.dq_wires.specs.declared.calls.WireFault.{WireFault}
+use Rattle.dq_front.specs.declared.deeds.Deed.{Deed}
+use Rattle.dq_front.specs.declared.deeds.Deed.TheVariants as deed
+use Rattle.dq_front.specs.declared.deeds.Given.{Given}
+use Rattle.dq_front.specs.declared.deeds.Given.TheVariants as given
+use Rattle.dq_front.specs.declared.visitor.TheConstants.{CONTINUE}
 use Rattle.dq_front.specs.declared.visitor.Stage.{Stage}
 use Rattle.dq_front.specs.declared.visitor.Stage.TheVariants as stage
+use Rattle.dq_front.specs.declared.visitor.Visitor.{Visitor}
+use Rattle.dq_front.specs.Deeds.{IsDeed}
 
--- the last response was written
-abbrev pub IsOver : Stage → Type 0
-IsOver stage.Over = Unit {0}
-IsOver other = ⊥
+-- one that has just come, and of which nothing is read
+pub record IsNew (place : ℕ) (visitor : Visitor) : Type 0 where
+  pub at : visitor.place ≡ place
+  pub came : visitor.came.items ≡ []
+  pub stage : visitor.stage ≡ stage.Reading
+  pub last : visitor.is_last ≡ false
+  pub fresh : visitor.is_fresh ≡ false
+  pub continued : visitor.is_continued ≡ false
+
+-- ---- what it asks
+
+abbrev pub asked_in : Stage → Option Request
+asked_in (stage.Waiting question) = Some question.asked
+asked_in other = None
+
+abbrev pub is_waiting : Visitor → Bool
+is_waiting visitor = is_some (asked_in visitor.stage)
+
+abbrev pub is_report : Option Request → Bool
+is_report (Some request.Report) = true
+is_report other = false
+
+abbrev pub asks_report : Visitor → Bool
+asks_report visitor = is_report (asked_in visitor.stage)
+
+-- there is something to do that no octet has to come for
+abbrev pub is_busy_in : Stage → Bool → Bool
+is_busy_in stage.Reading is_fresh = is_fresh
+is_busy_in (stage.Waiting question) is_fresh = true
+is_busy_in (stage.Writing response written) is_fresh = false
+is_busy_in stage.Over is_fresh = true
+
+abbrev pub is_busy : Visitor → Bool
+is_busy visitor = is_busy_in visitor.stage visitor.is_fresh
+
+-- ---- what is written
+
+-- a response is written from its first octet on
+abbrev pub with_response : Visitor → List ℕ → Visitor
+with_response visitor octets = record visitor { stage = stage.Writing octets 0 }
+
+-- The server's response to a question is written as HTTP has it. Where there is no memory for that, nothing is
+-- written, and nothing more is read.
+abbrev pub AnswersAt : List Institution → Stage → Response → Visitor → Visitor → Type 0
+AnswersAt institutions (stage.Waiting question) response old new =
+    ((written : Written) × IsResponse (IsReplyTo question response institutions) question.framing written
+    × (new ≡ with_response old written.octets.items))
+    ⊎ (new ≡ record old { stage = stage.Over })
+AnswersAt institutions other response old new = new ≡ old
 
 -- what is left of a response that is written
 abbrev pub IsRest : Stage → Option (Bor (List ℕ)) → Type 0
@@ -28,9 +87,77 @@ WritesRest place (stage.Writing response written) before after =
     ⊎ ((length response < written) × (after ≡ before))
 WritesRest place other before after = after ≡ before
 
--- after octets of the last response: it is still written, or nothing is read any more
-abbrev pub IsAfterLast : Stage → Stage → Type 0
-IsAfterLast (stage.Writing response written) stage.Over = Unit {0}
-IsAfterLast (stage.Writing response written) (stage.Writing same more) = same ≡ response
-IsAfterLast (stage.Writing response written) other = ⊥
-IsAfterLast before after = Unit {0}
+-- After octets of a response it is still written; or it is whole, and the next request is read. Behind the last
+-- response nothing is read (RFC 9112 section 9.6).
+abbrev pub IsAfterWrite : Stage → Bool → Stage → Type 0
+IsAfterWrite (stage.Writing response written) is_last (stage.Writing same more) = same ≡ response
+IsAfterWrite (stage.Writing response written) is_last stage.Reading = is_last ≡ false
+IsAfterWrite (stage.Writing response written) is_last stage.Over = is_last ≡ true
+IsAfterWrite (stage.Writing response written) is_last other = ⊥
+IsAfterWrite before is_last after = after ≡ before
+
+-- octets of its response were written, and nothing else changed
+abbrev pub IsSent : Visitor → Visitor → Type 0
+IsSent old new = IsAfterWrite old.stage old.is_last new.stage
+    × (new ≡ record old { stage = new.stage })
+
+-- ---- what is read
+
+-- nothing more is read nor written
+abbrev pub IsOver : Stage → Type 0
+IsOver stage.Over = Unit {0}
+IsOver other = ⊥
+
+-- octets came behind those that had come, and nothing else changed
+abbrev pub IsRead : Visitor → Visitor → Type 0
+IsRead old new = ((more : List ℕ) × (new.came.items ≡ old.came.items ++ more))
+    × (new ≡ record old { came = new.came; is_fresh = new.is_fresh })
+
+-- a request of this extent is taken off what came
+abbrev pub IsTakenOff : ℕ → Visitor → Visitor → Type 0
+IsTakenOff extent old new = (new.came.items ≡ drop extent old.came.items)
+    × (new ≡ record old { came = new.came; is_fresh = not (is_empty new.came.items); is_continued = false })
+
+-- what was looked at
+abbrev pub seen : Visitor → Visitor
+seen visitor = record visitor { is_fresh = false }
+
+-- a response is written, or a question waits
+abbrev pub stage_of : Given → Stage
+stage_of (given.Response written) = stage.Writing written.octets.items 0
+stage_of (given.Question question) = stage.Waiting question
+
+-- what a connection becomes by what is done for the octets that came of it
+abbrev pub Takes : Deed → Visitor → Visitor → Type 0
+Takes deed.Wait old new = new ≡ seen old
+Takes deed.GoOn old new = new ≡ (if old.is_continued then seen old
+    else record (with_response (seen old) CONTINUE.now) { is_continued = true })
+Takes (deed.Refuse written) old new =
+    new ≡ record (with_response (seen old) written.octets.items) { is_last = true }
+Takes (deed.Answer answer) old new = (mid : Visitor) × IsTakenOff answer.extent old mid
+    × (new ≡ record mid { stage = stage_of answer.given; is_last = answer.is_last; words = answer.words; begun = new.begun })
+
+abbrev pub is_reading : Stage → Bool
+is_reading stage.Reading = true
+is_reading other = false
+
+abbrev pub is_to_take : Visitor → Bool
+is_to_take visitor = visitor.is_fresh && is_reading visitor.stage
+
+-- where a request is read, and something came that was not looked at, what is to be done for it is done
+abbrev pub TakesUp : Guard → Visitor → Visitor → Type 0
+TakesUp guard old new = ((is_to_take old ≡ false) × (new ≡ old))
+    ⊎ (IsTrue (is_to_take old) × ((deed : Deed) × IsDeed guard old.came.items deed × Takes deed old new))
+
+-- ---- its turn
+
+-- a response is written, or what comes is read; what waits is as it was, and nothing is over
+abbrev pub Moves : Stage → Visitor → Visitor → Type 0
+Moves stage.Reading old new = IsRead old new
+Moves (stage.Waiting question) old new = new ≡ old
+Moves (stage.Writing response written) old new = IsSent old new × (IsOver new.stage → ⊥)
+Moves stage.Over old new = ⊥
+
+-- then what came is taken up
+abbrev pub Turns : Guard → Visitor → Visitor → Type 0
+Turns guard old new = (mid : Visitor) × Moves old.stage old mid × TakesUp guard mid new

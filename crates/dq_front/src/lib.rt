@@ -1,8 +1,10 @@
-//! The web front over wires: connections of HTTP, whose requests call the console.
+//! Connections of the web front: what they ask, and their responses.
 #![tactic(auto)]
 
+mod deeds;
 mod front;
 mod noting;
 mod visitor;
 
-pub use front::{Front, Site};
+pub use deeds::Site;
+pub use front::Front;

@@ -1,24 +1,28 @@
 //! A connection of the web front.
-ghost use Rattle.std.specs.Prelude.{◌≡◌, ◌≤◌, Bool, length, true, false, IsTrue};
-ghost use Rattle.dq_wires.specs.Logs.{IfGot};
-ghost use Rattle.dq_front.specs.Visits.{IsOver, IsRest, WritesRest, IsAfterLast};
+ghost use Rattle.std.specs.Prelude.{◌≡◌, option_copied, IfOk, OnOk};
+ghost use Rattle.std.specs.Bool.{OnTrue};
+ghost use Rattle.dq_web.specs.Answers.{IsReplyTo, IsResponse};
+ghost use Rattle.dq_front.specs.Visits.{IsNew, IsOver, IsRest, WritesRest, IsSent, IsRead, IsTakenOff, with_response, AnswersAt, Takes, TakesUp, Moves, Turns, is_waiting, is_busy, asked_in, asks_report};
 
+use crate::deeds::{Answer, Deed, Given, Site};
+use crate::noting::Notes;
 use dq_list::Listed;
-use dq_web::{Form, Question};
+use dq_request::{Request, Response};
+use dq_web::{Question, Written};
 use dq_wires::{ReadTurn, WireFault, Wires};
 use std::alloc::{AllocError, Global};
-use std::mem;
 use std::time::Instant;
+
+/// What a client waits for that asks to go on with the body of its request (RFC 9110 section 10.1.1).
+const CONTINUE: &[u8] = b"HTTP/1.1 100 Continue\r\n\r\n";
 
 /// What becomes of the request of a connection.
 #[derive(Drop)]
 pub(crate) enum Stage {
     /// It is read.
     Reading,
-    /// It waits until the console takes it.
+    /// It waits for the server's response.
     Waiting(Question),
-    /// The console takes it: so many octets of its line were given.
-    Asking(Question, usize),
     /// A response is written: so many of its octets were.
     Writing(Listed<u8>, usize),
     /// The last response was written: nothing is read behind it (RFC 9112 section 9.6).
@@ -26,20 +30,17 @@ pub(crate) enum Stage {
 }
 
 /// A connection: its place among the wires, what came and is not taken, what becomes of its request,
-/// and whether the console holds its place, or nothing comes after the response.
+/// and whether nothing comes after the response.
 #[derive(Drop)]
 pub(crate) struct Visitor {
     pub place: usize,
     pub came: Vec<u8>,
     pub stage: Stage,
-    pub is_called: bool,
     pub is_last: bool,
     /// What came has not been looked at since the last octet of it.
     pub is_fresh: bool,
     /// The client was told to go on with the body of its request.
     pub is_continued: bool,
-    /// The number of its request among those that asked something of the console.
-    pub ticket: u64,
     /// The words of its request in the log, and when that was whole.
     pub words: String,
     pub begun: Option<Instant>,
@@ -47,86 +48,91 @@ pub(crate) struct Visitor {
 
 impl Visitor {
     /// One that has just come.
-    pub fn new(alloc: Global, place: usize) -> Self {
+    pub fn new(alloc: Global, place: usize) -> Self
+        ensures { IsNew place result }
+    {
         Visitor {
             place,
             came: Vec::new(alloc),
             stage: Stage::Reading,
-            is_called: false,
             is_last: false,
             is_fresh: false,
             is_continued: false,
-            ticket: 0,
             words: String::new(alloc),
             begun: None,
         }
     }
 
-    /// Whether its request waits for the console.
-    pub fn is_waiting(&self) -> bool {
+    /// Whether its request waits for the server's response.
+    pub fn is_waiting(&self) -> bool
+        ensures { result ≡ is_waiting self.now }
+    {
         matches!(self.stage, Stage::Waiting(_))
     }
 
-    /// Whether its request asks for metrics.
-    pub fn wants_counts(&self) -> bool {
+    /// What it waits to be answered.
+    pub fn asked(&self) -> Option<&Request>
+        ensures { option_copied result ≡ asked_in self.now.stage }
+    {
         match &self.stage {
-            Stage::Waiting(question) | Stage::Asking(question, _) => question.form == Form::Metrics,
-            Stage::Reading | Stage::Writing(..) | Stage::Over => false,
+            Stage::Waiting(question) => Some(&question.asked),
+            Stage::Reading | Stage::Writing(..) | Stage::Over => None,
         }
+    }
+
+    /// Whether it waits for a report of the counts.
+    pub fn wants_counts(&self) -> bool
+        ensures { result ≡ asks_report self.now }
+    {
+        matches!(self.asked(), Some(Request::Report))
     }
 
     /// Whether there is something to do that no octet has to come for.
-    pub fn is_busy(&self) -> bool {
+    pub fn is_busy(&self) -> bool
+        ensures { result ≡ is_busy self.now }
+    {
         match self.stage {
             Stage::Reading => self.is_fresh,
-            Stage::Waiting(_) | Stage::Asking(..) | Stage::Over => true,
-            Stage::Writing(..) => self.is_called,
+            Stage::Waiting(_) | Stage::Over => true,
+            Stage::Writing(..) => false,
         }
     }
 
-    /// Keeps a response to be written, unless the last one was.
-    pub fn put(&mut self, response: Vec<u8>)
-        ensures over { IsOver self.old.stage → self.new ≡ self.old }
+    /// Keeps a response to be written.
+    fn put(&mut self, octets: Vec<u8>)
+        ensures { self.new ≡ with_response self.old octets.items }
     {
-        if !matches!(self.stage, Stage::Over) {
-            self.stage = Stage::Writing(Listed::from_inner(response), 0);
-        }
+        self.stage = Stage::Writing(Listed::from_inner(octets), 0);
     }
 
-    /// Takes its request to the console. The answer is whether it waited for that.
-    pub fn begin(&mut self) -> bool
-        ensures over { IsOver self.old.stage → IsOver self.new.stage }
+    // The response of HTTP to its question, whose status is noted.
+    fn response_to(
+        &self,
+        question: &Question,
+        response: &Response,
+        site: &Site,
+        notes: &mut Notes,
+    ) -> Result<Written, AllocError>
+        ensures { IfOk result (IsResponse (IsReplyTo question.now response.now
+            site.now.institutions.items) question.now.framing) }
     {
-        match mem::replace(&mut self.stage, Stage::Reading) {
-            Stage::Waiting(question) => {
-                self.stage = Stage::Asking(question, 0);
-                self.is_called = true;
-                true
-            }
-            other => {
-                self.stage = other;
-                false
-            }
-        }
+        let written = site.response_to(question, response)?;
+        notes.tell(self.words.as_str(), self.begun, written.status)?;
+        Ok(written)
     }
 
-    /// Gives the console the next octets of its line, and that it ended once it is answered.
-    pub fn give(&mut self, buffer: &mut [u8]) -> Result<ReadTurn, WireFault>
-        ensures { IfGot result (λ count. count ≤ length buffer.old) }
+    /// Answers its question, if one waits. Where there is no memory for the response, none is written,
+    /// and the connection is over.
+    pub fn answer(&mut self, response: &Response, site: &Site, notes: &mut Notes)
+        ensures { AnswersAt site.now.institutions.items self.old.stage response.now self.old self.new }
     {
-        let Stage::Asking(question, given) = &mut self.stage else {
-            return Ok(ReadTurn::Ended);
+        let Stage::Waiting(question) = &self.stage else {
+            return;
         };
-        let Some(rest) = question.line.as_slice().get(*given..) else {
-            return Ok(ReadTurn::Ended);
-        };
-        let count = rest.len().min(buffer.len());
-        if count == 0 {
-            return Ok(ReadTurn::Nothing);
+        match self.response_to(question, response, site, notes) {
+            Ok(written) => self.put(written.octets),
+            Err(AllocError) => self.stage = Stage::Over,
         }
-        buffer[..count].copy_from_slice(&rest[..count]);
-        *given = given.saturating_add(count);
-        Ok(ReadTurn::Got(count))
     }
 
     /// What is left of its response.
@@ -144,14 +150,12 @@ impl Visitor {
 
     /// Writes what is left of its response at its own place. The answer is whether the connection is still
     /// there: it is not once the last response was written.
-    pub fn write<W: Wires>(&mut self, wires: &mut W) -> bool
+    fn write<W: Wires>(&mut self, wires: &mut W) -> bool
         ensures told { WritesRest self.old.place self.old.stage (W.log wires.old) (W.log wires.new) }
-        ensures last { IsTrue self.old.is_last → IsAfterLast self.old.stage self.new.stage }
-        ensures same { self.new.is_last ≡ self.old.is_last }
-        ensures place { self.new.place ≡ self.old.place }
+        ensures wrote { OnTrue result (Moves self.old.stage self.old self.new) }
     {
         let Some(rest) = self.rest() else {
-            return !matches!(self.stage, Stage::Writing(..) | Stage::Over);
+            return false;
         };
         let left = rest.len();
         match wires.write(self.place, rest) {
@@ -165,24 +169,24 @@ impl Visitor {
 
     /// Counts octets that were written, the last ones of the response if that is said.
     fn advance(&mut self, count: usize, is_whole: bool)
-        ensures last { IsTrue self.old.is_last → IsAfterLast self.old.stage self.new.stage }
-        ensures same { self.new.is_last ≡ self.old.is_last }
-        ensures place { self.new.place ≡ self.old.place }
+        ensures { IsSent self.old self.new }
     {
-        if is_whole {
-            self.stage = if self.is_last {
-                Stage::Over
-            } else {
-                Stage::Reading
-            };
-        } else if let Stage::Writing(_, written) = &mut self.stage {
+        let Stage::Writing(_, written) = &mut self.stage else {
+            return;
+        };
+        if !is_whole {
             *written = written.saturating_add(count);
+        } else if self.is_last {
+            self.stage = Stage::Over;
+        } else {
+            self.stage = Stage::Reading;
         }
     }
 
     /// Reads what came. The answer is whether the connection is still there.
-    pub fn read<W: Wires>(&mut self, wires: &mut W, buffer: &mut [u8]) -> bool
+    fn read<W: Wires>(&mut self, wires: &mut W, buffer: &mut [u8]) -> bool
         ensures over { IsOver self.old.stage → (self.new ≡ self.old) × (wires.new ≡ wires.old) }
+        ensures came { OnTrue result (IsRead self.old self.new) }
     {
         if let Stage::Over = self.stage {
             return false;
@@ -201,12 +205,95 @@ impl Visitor {
     }
 
     /// Takes off the octets of a request that is whole.
-    pub fn take_off(&mut self, extent: usize) -> Result<(), AllocError> {
+    fn take_off(&mut self, extent: usize) -> Result<(), AllocError>
+        ensures { OnOk result (IsTakenOff extent self.old self.new) }
+    {
         let end = extent.min(self.came.len());
         let rest = self.came.split_off(end)?;
         self.came = rest;
         self.is_fresh = !self.came.is_empty();
         self.is_continued = false;
         Ok(())
+    }
+
+    // Takes the answer to the request that stands at the front of what came.
+    fn take(&mut self, answer: Answer, notes: &mut Notes) -> Result<(), AllocError>
+        ensures { OnOk result (Takes (Deed.Answer answer) self.old self.new) }
+    {
+        self.take_off(answer.extent)?;
+        self.is_last = answer.is_last;
+        self.words = answer.words;
+        self.begun = notes.now();
+        match answer.given {
+            Given::Response(written) => {
+                notes.tell(self.words.as_str(), self.begun, written.status)?;
+                self.put(written.octets);
+            }
+            Given::Question(question) => self.stage = Stage::Waiting(question),
+        }
+        Ok(())
+    }
+
+    // Tells the client to go on, once.
+    fn go_on(&mut self, alloc: Global) -> Result<(), AllocError>
+        ensures { OnOk result (Takes Deed.GoOn self.old self.new) }
+    {
+        self.is_fresh = false;
+        if self.is_continued {
+            return Ok(());
+        }
+        self.is_continued = true;
+        self.put(Vec::from_slice(alloc, CONTINUE)?);
+        Ok(())
+    }
+
+    // Takes up what came, where a request is read and there is something new.
+    fn take_up(&mut self, site: &Site, notes: &mut Notes) -> Result<(), AllocError>
+        ensures { OnOk result (TakesUp site.now.guard self.old self.new) }
+    {
+        if !self.is_fresh || !matches!(self.stage, Stage::Reading) {
+            return Ok(());
+        }
+        match site.deed_for(self.came.as_slice(), notes.date())? {
+            Deed::Wait => self.is_fresh = false,
+            Deed::GoOn => self.go_on(site.alloc)?,
+            Deed::Refuse(written) => {
+                self.is_fresh = false;
+                self.is_last = true;
+                self.put(written.octets);
+            }
+            Deed::Answer(answer) => self.take(answer, notes)?,
+        }
+        Ok(())
+    }
+
+    // A response is written, or what comes is read. The answer is whether the connection is still there.
+    fn moves<W: Wires>(&mut self, wires: &mut W, buffer: &mut [u8]) -> bool
+        ensures { OnTrue result (Moves self.old.stage self.old self.new) }
+    {
+        match self.stage {
+            Stage::Writing(..) => self.write(wires),
+            Stage::Reading if self.is_fresh => true,
+            Stage::Reading => self.read(wires, buffer),
+            Stage::Waiting(_) => true,
+            Stage::Over => false,
+        }
+    }
+
+    /// Its turn: a response is written, or what comes is read, and taken up. The answer is whether the
+    /// connection is still there.
+    pub fn turn<W: Wires>(
+        &mut self,
+        wires: &mut W,
+        buffer: &mut [u8],
+        site: &Site,
+        notes: &mut Notes,
+    ) -> bool
+        ensures { OnTrue result (Turns site.now.guard self.old self.new) }
+    {
+        if !self.moves(wires, buffer) {
+            return false;
+        }
+        matches!(self.take_up(site, notes), Ok(()))
     }
 }

@@ -46,9 +46,10 @@ no-usage-file : (unread : List ℕ → Type 0) (held : List ℕ → Option (List
 no-usage-file unread held None is = absurd (cc)
 no-usage-file unread held (Some path) is = is
 
-module _ {Wired : Type 0} (log : Wired → Option (List Call)) (held : List ℕ → Option (List ℕ)) (stored : List ℕ → Option (List Row))
+module _ {Wired Console : Type 0} (log : Wired → Option (List Call)) (console_log : Console → Option (List Call))
+    (held : List ℕ → Option (List ℕ)) (stored : List ℕ → Option (List Row))
     (input before after : Option (List ℕ)) (unread : List ℕ → Type 0) (unfed fails breaks : Type 0) where
-  no-usage : (errand : Errand) → EndsEarly log held stored input before after unread unfed fails breaks errand Usage → ⊥
+  no-usage : (errand : Errand) → EndsEarly log console_log held stored input before after unread unfed fails breaks errand Usage → ⊥
   no-usage (Plays request) (inl refused) = no-usage-file unread held request.config refused.1
   no-usage (Plays request) (inr (inl refused)) = refused.2
   no-usage (Plays request) (inr (inr (institutions, events, by, tells, inl refused))) = refused.1
@@ -69,7 +70,7 @@ module _ {Wired : Type 0} (log : Wired → Option (List Call)) (held : List ℕ 
   no-usage (Exports exporting) (inr (inr kept)) = let is : Usage ≡ unclosed_store = kept.0 in absurd (cc)
 
   -- words that are understood are not told as usage
-  pub not_usage : (errand : Errand) (cause : Stop) → EndsEarly log held stored input before after unread unfed fails breaks errand cause
+  pub not_usage : (errand : Errand) (cause : Stop) → EndsEarly log console_log held stored input before after unread unfed fails breaks errand cause
       → status_of cause ≡ 1 → ⊥
   not_usage errand Usage ends one = no-usage errand ends
   not_usage errand (Config number) ends one = absurd (omega (arith, one))
@@ -81,10 +82,11 @@ module _ {Wired : Type 0} (log : Wired → Option (List Call)) (held : List ℕ 
   not_usage errand Output ends one = absurd (omega (arith, one))
   not_usage errand Network ends one = absurd (omega (arith, one))
 
-module _ {Wired : Type 0} (log : Wired → Option (List Call)) (held : List ℕ → Option (List ℕ)) (stored : List ℕ → Option (List Row))
+module _ {Wired Console : Type 0} (log : Wired → Option (List Call)) (console_log : Console → Option (List Call))
+    (held : List ℕ → Option (List ℕ)) (stored : List ℕ → Option (List Row))
     (input written : Option (List ℕ)) (unread : List ℕ → Type 0) (unfed fails breaks : Type 0) where
   -- nothing was done, for want of memory
-  pub unbegun : (errand : Errand) → EndsEarly log held stored input written written unread unfed fails breaks errand (Fault no_memory)
+  pub unbegun : (errand : Errand) → EndsEarly log console_log held stored input written written unread unfed fails breaks errand (Fault no_memory)
   unbegun (Plays request) = inl (keeps written, no_file unread held request.config)
   unbegun (Serves serving) = inl (keeps written, no_file unread held serving.config)
   unbegun (Loops file) = keeps written
@@ -97,7 +99,7 @@ module _ {Wired : Type 0} (log : Wired → Option (List Call)) (held : List ℕ 
   pub unread_words : (found : Option Errand) (errand : Errand) (Told : Stop → Type 0) (k : ErrorKind) (status : ℕ)
       → found ≡ Some errand → (k ≢ kind.OutOfMemory → found ≡ None) → (k ≡ kind.OutOfMemory → (status ≡ 4) × Told (Fault no_memory))
       → (cause : Stop) × (status ≡ status_of cause) × Told cause
-      × EndsEarly log held stored input written written unread unfed fails breaks errand cause
+      × EndsEarly log console_log held stored input written written unread unfed fails breaks errand cause
   unread_words found errand Told k status is other memory = elim (memory_or_not k) [
     | inl so ↦ let told = memory so in (Fault no_memory, told.0, told.1, unbegun errand)
     | inr not ↦ let none : found ≡ None = other not in absurd (cc)

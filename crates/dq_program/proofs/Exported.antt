@@ -15,7 +15,7 @@ use Rattle.dq_tables.proofs.Listing.{listed_in_order}
 use Rattle.dq_tables.proofs.Seen.{listed_own}
 use Rattle.dq_captures.proofs.Written.{AppendsPart-after, Appends-kept, Appends-then, BreaksOff-item}
 use Rattle.dq_program.specs.Program.{Breaks}
-use Rattle.dq_program.specs.Searching.{json_line, json_lines}
+use Rattle.dq_desk.specs.Lines.{json_line, json_lines}
 use Rattle.dq_words.specs.Words.{Exporting}
 use Rattle.dq_program.specs.Exports.{data_sets_of, exported, kinds_asked, export_text, CutsLines}
 use Rattle.dq_program.specs.declared.stop.Stop.{Stop}

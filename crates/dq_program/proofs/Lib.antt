@@ -2,12 +2,8 @@ pub mod Inputs
 pub mod Cutting
 pub mod Ends
 pub mod Exported
-pub mod Heeding
-pub mod Lines
-pub mod Listed
 pub mod Misfits
 pub mod Rounded
 pub mod Serviced
 pub mod Replaying
 pub mod Storing
-pub mod Visiting

@@ -1,5 +1,5 @@
 -- Configurations that are refused at a check.
-use Rattle.std.proofs.Common.{◌≡◌, ◌≢◌, ◌⊎◌, ℕ, suc, List, Option, Some, None, Err, IfSome, inl, inr, refl, sym}
+use Rattle.std.proofs.Common.{◌≡◌, ◌≢◌, ℕ, suc, List, Option, Some, None, Err, IfSome, inl, inr, refl, sym}
 use Rattle.std.specs.Str.{IsUtf8}
 use Rattle.dq_config.specs.declared.fault.ConfigFault.{ConfigFault}
 use Rattle.dq_config.specs.declared.fault.ConfigFault.TheVariants as config

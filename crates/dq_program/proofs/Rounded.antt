@@ -26,15 +26,16 @@ use Rattle.dq_wires.specs.Turners.{Turning}
 use Rattle.dq_wires.proofs.Logging.{logs-then, logs-none}
 use Rattle.dq_program.specs.declared.stop.Stop.{Stop}
 use Rattle.dq_program.specs.declared.stop.Stop.TheVariants as stop
-use Rattle.dq_program.specs.Console.{Calling, attending_calls, attending_acts, after_attending, interruption_acts, VisitsTell}
-use Rattle.dq_program.specs.Desk.{IsLeft}
-use Rattle.dq_program.specs.Heeding.{Attends, Interrupted}
+use Rattle.dq_desk.specs.Console.{Calling, attending_calls, attending_acts, after_attending, interruption_acts, VisitsTell, Answering}
+use Rattle.dq_desk.specs.Requests.{IsLeft}
+use Rattle.dq_desk.specs.Heeding.{Attends, Interrupted}
 use Rattle.dq_program.specs.Program.{stop_of_turning}
-use Rattle.dq_program.specs.Serving.{WentOn, HoldsAt, Round, round_acts, rounds_acts, console_calls, callers_left, ArePlain, ArePlainTo, AreConsoled, RoundsTell, Halt, halt_acts, halt_calls, IsHalt, HaltTells, HasCause, IsServiceFault, IsConsoleStop}
+use Rattle.dq_desk.specs.Going.{WentOn}
+use Rattle.dq_program.specs.Serving.{Round, round_acts, rounds_acts, console_calls, callers_left, ArePlain, ArePlainTo, AreConsoled, RoundsTell, Halt, halt_acts, halt_calls, IsHalt, HaltTells, HasCause, IsServiceFault}
 use Rattle.dq_program.specs.Serving.Round.{Plain, Consoled}
 use Rattle.dq_program.specs.Serving.Halt.{InTurn, AtConsole}
 use Rattle.dq_program.specs.Rounds.{RoundsWent, RoundsCut, Beside, BesideCut}
-use Rattle.dq_program.proofs.Serviced.{TurnsServe, TurnsCutServe, WholeServes, holds-later, went-nowhere, went-then, went-by-turns}
+use Rattle.dq_desk.proofs.Going.{TurnsServe, TurnsCutServe, WholeServes, holds-later, went-nowhere, went-then, went-by-turns}
 
 -- no turn is whole of one that was cut off
 none-below : {X : Type 0} (xs : List X) → length xs < 1 → xs ≡ []
@@ -160,17 +161,6 @@ service-fault fault.NoMemory = inl (inl refl)
 service-fault fault.Store = inl (inr refl)
 service-fault fault.Stopped = inr refl
 
-console-cause : (breaks : Type 0) (cause : Stop) → IsConsoleStop cause → HasCause breaks NoRoom cause
-console-cause breaks (stop.Fault number) is = is
-console-cause breaks stop.Usage is = is
-console-cause breaks (stop.Config number) is = is
-console-cause breaks (stop.Unfit misfit) is = is
-console-cause breaks (stop.Keys line) is = is
-console-cause breaks (stop.Capture number) is = is
-console-cause breaks (stop.Store number) is = is
-console-cause breaks stop.Output is = is
-console-cause breaks stop.Network is = absurd is
-
 module _ {Tables : Type 0} (state : Tables → State) (breaks : Type 0) (old new : Standing Tables) where
   stops-cause : (cut : Cut) (event : Option Event) (fault : TurnFault) → StopsBy (Fails state) old new event fault → HasCause breaks cut (stop_of_turning fault)
   stops-cause cut None fault stops = rw stops.1 (inl (inl refl))
@@ -280,9 +270,10 @@ module _ {Tables : Type 0} (state : Tables → State) where
 
   -- a turn of all connections, and then one of the console that was interrupted
   module _ {breaks : Type 0} {names : List (List ℕ)} {before after beside left : Option (List Call)} {old mid new : Turning Tables} {from : List Calling}
-      {cause : Stop} (law : TurnsServe state) (whole : WholeServes state) (at : Interrupted state names beside left mid new from) (is : IsConsoleStop cause) where
+      (law : TurnsServe state) (whole : WholeServes state) (at : Interrupted state names beside left mid new from) (why : Fault) where
     interrupted-round : (turns : List Turn) → length turns ≡ 1 → WentOn state before after old mid (all_turned turns)
-        → RoundsCut state breaks before after old new.server 1 (BesideCut state names before old beside left from) cause
+        → RoundsCut state breaks before after old new.server 1 (BesideCut state names before old beside left from)
+        (stop.Fault (fault_number why))
     interrupted-round [] one went = absurd (cc)
     interrupted-round (turn ∷ []) one went = record {
       rounds = [];
@@ -298,7 +289,7 @@ module _ {Tables : Type 0} (state : Tables → State) where
               (at.tells after honest rows start first (done ++ Turned turn ∷ []) (went.serves rows start first done s)),
         );
       };
-      causes = console-cause breaks cause is;
+      causes = service-fault why;
       off = λ rows start first done s.
           let all = went-then state went (at.acts after) in
           let later = all.serves rows start first done s in
@@ -312,12 +303,13 @@ module _ {Tables : Type 0} (state : Tables → State) where
     interrupted-round (turn ∷ more ∷ turns) one went = absurd (cc)
 
     pub cut-console : TurnsWent (Moves state) before after old.server mid.server old.hold mid.hold 1 → mid.fault ≡ None
-        → RoundsCut state breaks before after old new.server 1 (BesideCut state names before old beside left from) cause
+        → RoundsCut state breaks before after old new.server 1 (BesideCut state names before old beside left from)
+        (stop.Fault (fault_number why))
     cut-console went works = interrupted-round went.turns went.whole (went-by-turns state law went works)
 
   -- a turn of all connections, and then one of the console
   module _ {names : List (List ℕ)} {before after beside left : Option (List Call)} {old mid new : Turning Tables} {from to : List Calling}
-      (law : TurnsServe state) (attends : Attends state names beside left mid new from to) where
+      {IsFront : Option Answering → Type 0} (law : TurnsServe state) (attends : Attends state names beside left mid new from to IsFront) where
     consoled-round : (turns : List Turn) → length turns ≡ 1 → WentOn state before after old mid (all_turned turns)
         → RoundsWent state before after old new 1 (Beside state names before old beside left from to)
     consoled-round [] is went = absurd (cc)

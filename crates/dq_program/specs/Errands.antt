@@ -14,14 +14,15 @@ use Rattle.dq_program.specs.Serving.{IsServed, StopsService}
 
 -- What is held in files and in stores, what is there once a store is closed, the input, and what was
 -- written before and after, as far as these are known.
-module _ {Wired : Type 0} (log : Wired → Option (List Call)) (held : List ℕ → Option (List ℕ))
+module _ {Wired Console : Type 0} (log : Wired → Option (List Call))
+    (console_log : Console → Option (List Call)) (held : List ℕ → Option (List ℕ))
     (stored migrated : List ℕ → Option (List Row))
     (copied : List ℕ → List (List ℕ) → Option (List Row)) (closed : List Row → Type 0)
     (input : Option (List ℕ)) (before after : Option (List ℕ)) where
   -- all was done
   abbrev pub IsDone : Errand → Type 0
   IsDone (Plays request) = IsReplayed held stored closed input before after request
-  IsDone (Serves serving) = IsServed log held stored before after serving closed
+  IsDone (Serves serving) = IsServed log console_log held stored before after serving closed
   IsDone (Loops file) = IsLooped log held file input (Appends before after)
   -- A new store of the old one's rows was made and closed, and a line was printed.
   IsDone (Migrates files) = Appends before after migrated_line
@@ -34,14 +35,15 @@ module _ {Wired : Type 0} (log : Wired → Option (List Call)) (held : List ℕ 
   IsDone (Exports exporting) = IsExported stored before after closed exporting
 
 -- It stopped short of its end, as far as files, the input, the output and the network may fail.
-module _ {Wired : Type 0} (log : Wired → Option (List Call)) (held : List ℕ → Option (List ℕ))
+module _ {Wired Console : Type 0} (log : Wired → Option (List Call))
+    (console_log : Console → Option (List Call)) (held : List ℕ → Option (List ℕ))
     (stored : List ℕ → Option (List Row)) (input before after : Option (List ℕ))
     (unread : List ℕ → Type 0) (unfed fails breaks : Type 0) where
   abbrev pub EndsEarly : Errand → Stop → Type 0
   EndsEarly (Plays request) cause =
       StopsPlay request unread held stored unfed input fails before after cause
   EndsEarly (Serves serving) cause =
-      StopsService log held stored before after serving breaks unread fails cause
+      StopsService log console_log held stored before after serving breaks unread fails cause
   EndsEarly (Loops file) cause = EndsLoop log held file input fails before after cause
   EndsEarly (Migrates files) cause = EndsMigration fails before after cause
   EndsEarly (Checks checking) cause =

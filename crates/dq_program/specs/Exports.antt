@@ -17,7 +17,7 @@ use Rattle.dq_program.specs.declared.stop.Stop.{Stop}
 use Rattle.dq_program.specs.declared.stop.Stop.TheVariants as stop
 use Rattle.dq_program.specs.Program.{EndsTask, RefusesStore, unclosed_store}
 use Rattle.dq_captures.specs.Reports.{every_kind}
-use Rattle.dq_program.specs.Searching.{json_lines}
+use Rattle.dq_desk.specs.Lines.{json_lines}
 
 -- the kind of rows that a word names: the worklist has the entries
 abbrev pub kind_named : RowKind → Kind

@@ -1,16 +1,11 @@
-pub mod Asking
-pub mod Backups
 pub mod Checks
-pub mod Console
 pub mod Copies
-pub mod Desk
 pub mod Errands
 pub mod Exports
-pub mod Heeding
+pub mod Fronts
 pub mod Looping
 pub mod Places
 pub mod Program
 pub mod Replays
 pub mod Rounds
 pub mod Serving
-pub mod Searching

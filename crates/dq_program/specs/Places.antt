@@ -1,5 +1,5 @@
 -- Where in a text the institution begins for which it is refused.
-use Rattle.std.specs.Prelude.{◌≡◌, ◌≢◌, ℕ, ◌+◌, ◌<◌, ◌≤◌, ◌⊎◌, ◌==◌, nat_eq, Bool, true, false, List, length, take, drop, count_by, codes, Err, IsTrue}
+use Rattle.std.specs.Prelude.{◌≡◌, ◌≢◌, ℕ, ◌+◌, ◌<◌, ◌≤◌, ◌⊎◌, ◌==◌, nat_eq, Bool, false, List, length, take, drop, count_by, codes, Err, IsTrue}
 use Rattle.std.specs.List.{starts_with}
 use Rattle.std.specs.Str.{IsUtf8}
 use Rattle.dq_config.specs.declared.fault.ConfigFault.{ConfigFault}

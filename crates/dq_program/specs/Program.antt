@@ -35,7 +35,6 @@ use Rattle.dq_program.specs.declared.stores.Unkept.TheVariants as unkept
 use Rattle.dq_words.specs.declared.words.Task.{Task}
 use Rattle.dq_words.specs.declared.words.Task.TheVariants.{Replay, Report}
 use Rattle.dq_words.specs.Words.{Request, RowsPlace, InMemory, InNewStore, InStore}
-use Rattle.dq_tables.specs.Keeping.{State}
 use Rattle.dq_tables.specs.declared.row.Row.{Row}
 use Rattle.dq_wires.specs.declared.fault.TurnFault.{TurnFault}
 use Rattle.dq_wires.specs.declared.fault.TurnFault.TheVariants as turning
@@ -204,10 +203,6 @@ abbrev pub unclosed_store : Stop
 unclosed_store = stop.Store 5
 
 -- ---- what is printed
-
--- whatever keeps rows so is honest
-abbrev pub AreHonest : {Tables : Type 0} → (Tables → State) → Type 0
-AreHonest {Tables} state = (tables : Tables) → (state tables).honest
 
 -- the fault of a run: memory ran out, or what keeps the rows failed
 abbrev pub IsRunFault : ℕ → Type 0

@@ -11,9 +11,10 @@ use Rattle.dq_wires.specs.Servings.{Served as ServedOver}
 use Rattle.dq_wires.specs.Turns.{Cut, cut_calls}
 use Rattle.dq_wires.specs.Turners.{Turning}
 use Rattle.dq_program.specs.declared.stop.Stop.{Stop}
-use Rattle.dq_program.specs.Console.{Calling}
-use Rattle.dq_program.specs.Desk.{IsLeft}
-use Rattle.dq_program.specs.Serving.{WentOn, HoldsAt, Round, rounds_acts, console_calls, AreConsoled, callers_left, RoundsTell, Halt, halt_acts, halt_cut, halt_calls, IsHalt, HaltTells, HasCause}
+use Rattle.dq_desk.specs.Console.{Calling}
+use Rattle.dq_desk.specs.Requests.{IsLeft}
+use Rattle.dq_desk.specs.Going.{WentOn, HoldsAt}
+use Rattle.dq_program.specs.Serving.{Round, rounds_acts, console_calls, AreConsoled, callers_left, RoundsTell, Halt, halt_acts, halt_cut, halt_calls, IsHalt, HaltTells, HasCause}
 
 -- So many rounds were made, which are so.
 pub record RoundsWent {Tables : Type 0} (state : Tables → State) (before after : Option (List Call))

@@ -7,23 +7,20 @@ use Rattle.dq_config.specs.declared.config.Institution.{Institution}
 use Rattle.dq_core.specs.declared.fault.Fault.TheVariants as fault
 use Rattle.dq_core.specs.Faults.{server_fault_number as fault_number}
 use Rattle.dq_core.specs.Shared.{replies}
-use Rattle.dq_core.specs.Standing.{Standing}
 use Rattle.dq_tables.specs.declared.row.Row.{Row}
-use Rattle.dq_tables.specs.Keeping.{State}
 use Rattle.dq_wires.specs.declared.calls.Call.{Call}
 use Rattle.dq_wires.specs.declared.given_up.Limits.{Limits}
 use Rattle.dq_wires.specs.Logs.{LogsAll}
 use Rattle.dq_wires.specs.Steps.{replies_of}
 use Rattle.dq_wires.specs.Turns.{Turn, Cut, IsCut, cut_calls}
 use Rattle.dq_wires.specs.Turns.Cut.{NoRoom, Unaccepted}
-use Rattle.dq_wires.specs.Turners.{Turning}
-use Rattle.dq_wires.specs.Servings.{Act, act_calls, nothing_held, AreActs, after_acts, served_steps, served_events, Serving}
+use Rattle.dq_wires.specs.Servings.{Act, act_calls, nothing_held, AreActs, after_acts, served_steps, served_events}
 use Rattle.dq_words.specs.Words.{callers_of, Serving as Service}
 use Rattle.dq_wires.specs.Servings.Act.{Turned}
 use Rattle.dq_program.specs.declared.stop.Stop.{Stop}
 use Rattle.dq_program.specs.declared.stop.Stop.TheVariants as stop
-use Rattle.dq_program.specs.Console.{Calling, Attending, IsAttending, attending_acts, attending_calls, after_attending, Interruption, IsInterruption, interruption_acts, interruption_calls, rows_after, VisitsTell}
-use Rattle.dq_program.specs.Program.{no_memory, AreHonest, IsRunFault, IsConfigured, RefusesFile, RefusesStore, IsInStore, rows_at, ClosesAt, unclosed_store}
+use Rattle.dq_desk.specs.Console.{Calling, Attending, IsAttending, attending_acts, attending_calls, after_attending, Interruption, IsInterruption, interruption_acts, interruption_calls, rows_after, VisitsTell, AttendingTells}
+use Rattle.dq_program.specs.Program.{no_memory, IsRunFault, IsConfigured, RefusesFile, RefusesStore, IsInStore, rows_at, ClosesAt, unclosed_store}
 use Rattle.dq_captures.specs.Printing.{numbered_line}
 use Rattle.dq_captures.specs.Reports.{names_of}
 use Rattle.dq_captures.specs.Surroundings.{BreaksOff}
@@ -64,37 +61,9 @@ ListensAs listens service wires = (limits : Limits) × AreLimits service limits
 abbrev pub IsUncalled : Option (List Call) → Type 0
 IsUncalled log = IfSome log (λ calls. calls ≡ [])
 
--- Whatever serving had come to `old` has come to `new` by these acts. The calls of the wires went on
--- from `before` to `after`.
-pub record WentOn {Tables : Type 0} (state : Tables → State) (before after : Option (List Call))
-    (old new : Turning Tables) (acts : List Act) : Type 0 where
-  pub serves : (rows : List Row) (start : Option (List Call)) (first : Standing Tables)
-      (done : List Act) → Serving state rows start before first old.server old.hold done
-      → Serving state rows start after first new.server new.hold (done ++ acts)
-  pub working : old.fault ≡ None → new.fault ≡ None
-
--- The console was attended to: these orders were stepped, and no turn was made.
-abbrev pub Attended : {Tables : Type 0} → (Tables → State) → Turning Tables → Turning Tables
-    → List Act → Type 0
-Attended state old new orders =
-    (log : Option (List Call)) → WentOn state log log old new orders
-
--- Whatever serving had come to `old`, from rows that were there and by acts: they are so. The calls
--- of the wires had gone on to `now`.
-abbrev pub HoldsAt : {Tables : Type 0} → (Tables → State) → Option (List Call) → Turning Tables
-    → (List Institution → List Row → List Act → Type 0) → Type 0
-HoldsAt {Tables} state now old AreSo = AreHonest state → (rows : List Row)
-    (start : Option (List Call)) (first : Standing Tables) (done : List Act)
-    → Serving state rows start now first old.server old.hold done
-    → AreSo first.institutions rows done
-
-abbrev pub Holds : {Tables : Type 0} → (Tables → State) → Turning Tables
-    → (List Institution → List Row → List Act → Type 0) → Type 0
-Holds state old AreSo = (now : Option (List Call)) → HoldsAt state now old AreSo
-
 -- ---- rounds
 
--- A turn of all connections, and then one of the console, if there is one.
+-- A turn of all connections, and then one of the console and the web front, if there are any.
 pub data Round : Type 0 where
   Plain : Turn → Round
   Consoled : Turn → Attending → Round
@@ -131,13 +100,13 @@ callers_left callers (Plain turn ∷ rounds) = callers_left callers rounds
 callers_left callers (Consoled turn attending ∷ rounds) =
     callers_left (after_attending attending) rounds
 
--- In each round callers of the console are told of the rows as they are then.
+-- In each round callers of the console and the web front are told of the rows as they are then.
 abbrev pub RoundsTell : List Institution → List (List ℕ) → List Row → List Act → List Round → Type 0
 RoundsTell institutions names rows done [] = Unit {0}
 RoundsTell institutions names rows done (Plain turn ∷ rounds) =
     RoundsTell institutions names rows (done ++ round_acts (Plain turn)) rounds
 RoundsTell institutions names rows done (Consoled turn attending ∷ rounds) =
-    VisitsTell institutions names rows (done ++ Turned turn ∷ []) attending.visits
+    AttendingTells institutions names rows (done ++ Turned turn ∷ []) attending
     × RoundsTell institutions names rows (done ++ round_acts (Consoled turn attending)) rounds
 
 -- ---- where a service is stopped, and why
@@ -182,11 +151,6 @@ ArePlainTo rounds (AtConsole turn it) = ⊥
 abbrev pub IsServiceFault : ℕ → Type 0
 IsServiceFault number = IsRunFault number ⊎ (number ≡ fault_number fault.Stopped)
 
--- what the console may end a service by: a fault, and never a want of its own connections
-abbrev pub IsConsoleStop : Stop → Type 0
-IsConsoleStop (stop.Fault number) = IsServiceFault number
-IsConsoleStop other = ⊥
-
 -- Why a service is stopped at a cut: for a fault; or because no connections can come in, where the
 -- network broke or an accept failed.
 abbrev pub HasCause : Type 0 → Cut → Stop → Type 0
@@ -208,11 +172,11 @@ IsUnheard breaks other = ⊥
 -- of these are exactly those of its turns: so each order is told by a line that a caller sent, and
 -- is answered by the line of its reply. A search is answered by what the institution that its line
 -- names is shown of the rows as they are then, and a report counts them.
-module _ {Wired : Type 0} (log : Wired → Option (List Call)) (institutions : List Institution)
+module _ {Console : Type 0} (log : Console → Option (List Call)) (institutions : List Institution)
     (rows : List Row) where
   abbrev pub HasConsole : Option (List ℕ) → List Round → Type 0
   HasConsole None rounds = ArePlain rounds
-  HasConsole (Some path) rounds = (wires : Wired) × (left : Wired)
+  HasConsole (Some path) rounds = (wires : Console) × (left : Console)
       × IsUncalled (log wires) × AreConsoled [] rounds
       × LogsAll (log wires) (log left) (flat_map console_calls rounds)
       × RoundsTell institutions (names_of institutions) rows [] rounds
@@ -232,37 +196,37 @@ pub record AreServed {Wired : Type 0} (log : Wired → Option (List Call))
       ≡ replies institutions rows (served_events acts cut)
 
 -- So many rounds were made and served. The rows that are kept are those after their events.
-pub record Served {Wired : Type 0} (log : Wired → Option (List Call))
-    (institutions : List Institution) (rows : List Row) (count : ℕ)
+pub record Served {Wired Console : Type 0} (log : Wired → Option (List Call))
+    (console_log : Console → Option (List Call)) (institutions : List Institution) (rows : List Row) (count : ℕ)
     (console : Option (List ℕ)) (kept : List Row) : Type 0 where
   pub rounds : List Round
   pub counted : length rounds ≡ count
   pub served : AreServed log institutions rows (rounds_acts rounds) NoRoom
-  pub consoled : HasConsole log institutions rows console rounds
+  pub consoled : HasConsole console_log institutions rows console rounds
   pub leaves : kept ≡ rows_after institutions rows (rounds_acts rounds)
 
 -- The console of a service that was stopped: its calls are exactly those of the rounds, and of the
 -- part of one, and so is what was told.
-module _ {Wired : Type 0} (log : Wired → Option (List Call)) (institutions : List Institution)
+module _ {Console : Type 0} (log : Console → Option (List Call)) (institutions : List Institution)
     (rows : List Row) where
   abbrev pub HasConsoleTo : Option (List ℕ) → List Round → Halt → Type 0
   HasConsoleTo None rounds halt = ArePlainTo rounds halt
-  HasConsoleTo (Some path) rounds halt = (wires : Wired) × (left : Wired)
+  HasConsoleTo (Some path) rounds halt = (wires : Console) × (left : Console)
       × IsUncalled (log wires) × AreConsoled [] rounds × IsHalt (callers_left [] rounds) halt
       × LogsAll (log wires) (log left) (flat_map console_calls rounds ++ halt_calls halt)
       × RoundsTell institutions (names_of institutions) rows [] rounds
       × HaltTells institutions (names_of institutions) rows (rounds_acts rounds) halt
 
 -- Rounds were made, at most so many, and the next was stopped, for this cause.
-pub record ServedUpTo {Wired : Type 0} (log : Wired → Option (List Call)) (breaks : Type 0)
-    (institutions : List Institution) (rows : List Row) (count : ℕ)
+pub record ServedUpTo {Wired Console : Type 0} (log : Wired → Option (List Call))
+    (console_log : Console → Option (List Call)) (breaks : Type 0) (institutions : List Institution) (rows : List Row) (count : ℕ)
     (console : Option (List ℕ)) (cause : Stop) : Type 0 where
   pub rounds : List Round
   pub most : length rounds ≤ count
   pub halt : Halt
   pub causes : HasCause breaks (halt_cut halt) cause
   pub served : AreServed log institutions rows (rounds_acts rounds ++ halt_acts halt) (halt_cut halt)
-  pub consoled : HasConsoleTo log institutions rows console rounds halt
+  pub consoled : HasConsoleTo console_log institutions rows console rounds halt
 
 -- How a service ends early: for want of memory, for the keys of its web front, or because nobody can
 -- come in, before it was ready; for a cause after it was, and what went before is so; because the output fails, after some octets
@@ -280,8 +244,8 @@ module _ (breaks may_fail : Type 0) (before after : Option (List ℕ)) (port : �
       (stop.Store number ≡ unclosed_store) × Appends before after (ready_text port)
   EndsService other = ⊥
 
-module _ {Wired : Type 0} (log : Wired → Option (List Call))
-    (held : List ℕ → Option (List ℕ)) (stored : List ℕ → Option (List Row))
+module _ {Wired Console : Type 0} (log : Wired → Option (List Call))
+    (console_log : Console → Option (List Call)) (held : List ℕ → Option (List ℕ)) (stored : List ℕ → Option (List Row))
     (before after : Option (List ℕ)) (serving : Service) where
   -- So many turns were made as are asked for, over wires that had not been called, after the line
   -- was printed, and nothing else. A store that is closed has the rows after them.
@@ -289,7 +253,7 @@ module _ {Wired : Type 0} (log : Wired → Option (List Call))
   IsServed closed = Appends before after (ready_text serving.port)
       × ((institutions : List Institution) × IsConfigured held serving.config institutions
       × IfSome (rows_at stored serving.place) (λ rows. (kept : List Row)
-      × Served log institutions rows (turn_count serving.turns) (callers_of serving) kept
+      × Served log console_log institutions rows (turn_count serving.turns) (callers_of serving) kept
       × (IsInStore serving.place → closed kept)))
       × ClosesAt serving.place closed (λ _. Unit {0})
 
@@ -301,5 +265,5 @@ module _ {Wired : Type 0} (log : Wired → Option (List Call))
       ⊎ ((institutions : List Institution) × IsConfigured held serving.config institutions
       × ((Keeps before after × RefusesStore cause)
       ⊎ EndsService breaks may_fail before after serving.port (λ why.
-      IfSome (rows_at stored serving.place) (λ rows. ServedUpTo log breaks institutions rows
-      (turn_count serving.turns) (callers_of serving) why)) cause))
+      IfSome (rows_at stored serving.place) (λ rows. ServedUpTo log console_log breaks
+      institutions rows (turn_count serving.turns) (callers_of serving) why)) cause))

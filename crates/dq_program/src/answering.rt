@@ -4,7 +4,8 @@ ghost use Rattle.std.specs.Io.KnownBytes.{Appends};
 ghost use Rattle.dq_core.specs.Histories.{is_well_formed_history};
 ghost use Rattle.dq_core.specs.Shared.{replies, world_after};
 ghost use Rattle.dq_captures.specs.Printing.{reply_lines};
-ghost use Rattle.dq_program.specs.Program.{AreGiven, AreHonest, CutsGiven, Cuts, EndsTask};
+ghost use Rattle.dq_program.specs.Program.{AreGiven, CutsGiven, Cuts, EndsTask};
+ghost use Rattle.dq_desk.specs.Going.{AreHonest};
 
 use crate::reading::History;
 use crate::stop::Stop;

@@ -1,36 +1,8 @@
-//! Copies of all rows, made while they are served.
-ghost use Rattle.std.specs.Prelude.{List, OnOk};
-ghost use Rattle.dq_tables.specs.declared.row.Row.{Row};
-ghost use Rattle.dq_core.specs.Looking.{LeavesAlone};
-
-use crate::stores::{Stores, Uncopied};
-use dq_core::Look;
-use dq_tables::Tables;
+//! Copies of all rows of a store, made while it is served.
+use crate::stores::Stores;
+use dq_desk::Backups;
+use dq_request::Uncopied;
 use std::alloc::Global;
-
-/// A maker of copies of all rows of tables.
-pub trait Backups<T: Tables> {
-    /// What there is once these rows are copied.
-    ghost copied: { Self → List Row → Type 0 };
-
-    /// Copies all rows into a new file at a path. The tables stay as they are.
-    fn backup(&self, alloc: Global, tables: &mut T, path: &str) -> Result<(), Uncopied>
-        ensures alone { LeavesAlone (T.state tables.old) (T.state tables.new) }
-        ensures copied { (T.state tables.new).honest →
-            OnOk result (copied self.now (T.state tables.old).rows) };
-}
-
-/// Copies of rows in memory, of which none is made.
-#[derive(Clone, Copy)]
-pub struct OfMemory;
-
-impl<T: Tables> Backups<T> for OfMemory {
-    ghost copied = { λ _ _. ⊥ };
-
-    fn backup(&self, _alloc: Global, _tables: &mut T, _path: &str) -> Result<(), Uncopied> {
-        Err(Uncopied::NoStore)
-    }
-}
 
 /// Copies of stores in files.
 #[derive(Clone, Copy)]
@@ -41,25 +13,5 @@ impl<Rt: Stores> Backups<Rt::File> for OfFiles<'_, Rt> {
 
     fn backup(&self, alloc: Global, tables: &mut Rt::File, path: &str) -> Result<(), Uncopied> {
         self.0.backup(alloc, tables, path)
-    }
-}
-
-/// A copy at a path. It is a look at the rows as they are between two events.
-#[derive(Clone, Copy)]
-pub struct Copying<'a, B> {
-    pub backups: &'a B,
-    pub alloc: Global,
-    pub path: &'a str,
-}
-
-impl<T: Tables, B: Backups<T>> Look<T> for Copying<'_, B> {
-    ghost use Rattle.std.specs.Prelude.{OnOk};
-
-    type Seen = Result<(), Uncopied>;
-
-    ghost shows = { λ it rows seen. OnOk seen (B.copied it.backups.now rows) };
-
-    fn look(&self, tables: &mut T) -> Result<(), Uncopied> {
-        self.backups.backup(self.alloc, tables, self.path)
     }
 }

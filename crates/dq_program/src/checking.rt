@@ -8,16 +8,18 @@ ghost use Rattle.dq_config.specs.Faults.{config_fault_number};
 ghost use Rattle.dq_config.specs.declared.fault.ConfigFault.TheVariants.{NoMemory};
 ghost use Rattle.dq_words.specs.Words.{checking_in};
 ghost use Rattle.dq_program.specs.Places.{IsLineOf};
-ghost use Rattle.dq_program.specs.Program.{AreHonest, IsConfigured, RefusesChecked};
+ghost use Rattle.dq_program.specs.Program.{IsConfigured, RefusesChecked};
+ghost use Rattle.dq_desk.specs.Going.{AreHonest};
 ghost use Rattle.dq_program.specs.Checks.{route_line, limit_text, limits_text, institution_lines, check_text, counted_lines, counted_check_text, IsListed, EndsList, IsChecked, StopsCheck};
 
 use crate::placing::line_of_fault;
-use crate::reporting::{CountsRows, Kept, put_line, put_whole};
+use crate::reporting::{Kept, put_whole};
 use crate::stop::{Misfit, Stop};
 use crate::stores::Stores;
 use dq_captures::{Folder, Sink, Unread};
 use dq_config::{Config, ConfigFault, Institution, Route};
 use dq_core::Fault;
+use dq_desk::{Counting, counted, put_counted_line};
 use dq_tables::Tables;
 use dq_words::Inspection;
 use std::alloc::{AllocError, Global};
@@ -135,7 +137,7 @@ fn list_of(alloc: Global, institutions: &[Institution]) -> Result<Vec<u8>, Alloc
 }
 
 /// Adds the lines of an institution, and that of its rows.
-fn put_counted<C: CountsRows>(
+fn put_counted<C: Counting>(
     alloc: Global,
     text: &mut Vec<u8>,
     counts: &mut C,
@@ -147,11 +149,12 @@ fn put_counted<C: CountsRows>(
     ensures fails { IfErr result (C.fails counts.old counts.new) }
 {
     put_institution(alloc, text, institution)?;
-    put_line(alloc, text, counts, institution.name.as_slice())
+    let counted = counted(alloc, counts, institution.name.as_slice())?;
+    Ok(put_counted_line(alloc, text, &counted)?)
 }
 
 /// The lines of institutions, each with that of its rows.
-fn counted_list_of<C: CountsRows>(
+fn counted_list_of<C: Counting>(
     alloc: Global,
     counts: &mut C,
     institutions: &[Institution],

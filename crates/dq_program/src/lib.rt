@@ -4,12 +4,9 @@
 #![tactic(auto)]
 
 mod answering;
-mod asking;
 mod backup;
-mod caller;
 mod checking;
 mod copying;
-mod desk;
 mod exporting;
 pub mod laws;
 mod looping;
@@ -19,7 +16,6 @@ mod placing;
 mod program;
 mod reading;
 mod reporting;
-mod searching;
 mod server_sockets;
 mod serving;
 mod stop;
@@ -30,4 +26,4 @@ pub use dq_captures::{
 };
 pub use network::{Entrance, Listening, Logging, Network, Unheard};
 pub use program::{perform, play_on, unworded};
-pub use stores::{Stores, Unclosed, Uncopied, Unkept};
+pub use stores::{Stores, Unclosed, Unkept};

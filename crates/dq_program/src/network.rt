@@ -5,14 +5,15 @@ ghost use Rattle.dq_words.specs.Words.{WebFront, web_front_in};
 ghost use Rattle.dq_web.specs.KeyFiles.{AreSpelled};
 ghost use Rattle.dq_wires.specs.declared.given_up.Limits.{Limits};
 
-use crate::server_sockets::{AssociationSockets, CallerSockets, Counted, ServerSockets};
+use crate::server_sockets::{AssociationSockets, ConsoleSockets, Counted, FrontSockets};
 use dq_captures::{Folder, Host, Unread};
 use dq_config::Institution;
+use dq_desk::Asks;
 use dq_front::{Front, Site};
 use dq_list::Listed;
 use dq_tables::Tables;
 use dq_web::{Guard, Keys, KeysFault};
-use dq_wires::{AssociationLog, Called, Limits, LogEnd, LoggedWires, SocketWires, Turner};
+use dq_wires::{AssociationLog, Called, Limits, LogEnd, LoggedWires, SocketWires, Turner, Wires};
 use dq_words::{VERSION, Web};
 use std::alloc::{AllocError, Global};
 use std::io;
@@ -83,14 +84,20 @@ pub trait Network {
     /// The wires over which they come.
     type Wired: Called<Self> + Drop;
 
+    /// Those over which callers of the console come.
+    type Console: Wires + Drop;
+
+    /// The web front.
+    type Front: Asks + Drop;
+
     /// It may be that nobody can be listened for, or waited for.
     ghost may_break: { Self → Type 0 };
 
     /// Wires on which connections come in at an address and a port, and are given up by these limits.
     ghost listens: { Self.Wired → List ℕ → ℕ → Limits → Type 0 };
 
-    /// Wires on which callers come in: of the console at a path, and of a web front.
-    ghost admits: { Self.Wired → Option (List ℕ) → Option WebFront → Type 0 };
+    /// Callers come in at the path of a console, and requests by a web front, as far as they are there.
+    ghost admits: { Self.Console → Self.Front → Option (List ℕ) → Option WebFront → Type 0 };
 
     /// Listens at a port of an address. The wires were not called.
     fn listen(&self, alloc: Global, listening: Listening<'_>) -> Result<Self::Wired, Unheard>
@@ -100,19 +107,19 @@ pub trait Network {
             listening.entry.port listening.entry.limits) }
         ensures failed { IsErrOf result Unheard.Failed → may_break self.now };
 
-    /// Listens for callers, beside other wires: who rests over both is woken by either. The web front is
-    /// one of these institutions. The new wires were not called.
+    /// Listens for callers and for requests of a web front, beside other wires: who rests over all is woken
+    /// by each. The web front is one of these institutions. The new wires were not called.
     fn listen_beside(
         &self,
         alloc: Global,
         entrance: Entrance<'_>,
         institutions: &[Institution],
         wires: &mut Self::Wired,
-    ) -> Result<Self::Wired, Unheard>
-        ensures beside { IfOk result (λ wires.
-            IfSome (Self.Wired.log wires) (λ calls. calls ≡ [])) }
-        ensures admits { IfOk result (λ wires. admits wires (option_copied entrance.entry.console)
-            (option_map web_front_in entrance.entry.web)) }
+    ) -> Result<(Self::Console, Self::Front), Unheard>
+        ensures beside { IfOk result (λ callers.
+            IfSome (Self.Console.log callers.0) (λ calls. calls ≡ [])) }
+        ensures admits { IfOk result (λ callers. admits callers.0 callers.1
+            (option_copied entrance.entry.console) (option_map web_front_in entrance.entry.web)) }
         ensures same { Self.Wired.log wires.new ≡ Self.Wired.log wires.old }
         ensures failed { IsErrOf result Unheard.Failed → may_break self.now };
 
@@ -121,15 +128,17 @@ pub trait Network {
         ensures same { Self.Wired.log wires.new ≡ Self.Wired.log wires.old }
         ensures failed { OnErr result (may_break self.now) };
 
-    /// Waits until something may be done over the wires, or over those that listen beside them.
+    /// Waits until something may be done over the wires, over those of the console or by the web front, which
+    /// has its turn.
     fn rest_with(
         &self,
         wires: &mut Self::Wired,
-        beside: &mut Self::Wired,
+        console: &mut Self::Console,
+        front: &mut Self::Front,
         most: Duration,
     ) -> io::Result<()>
         ensures same { Self.Wired.log wires.new ≡ Self.Wired.log wires.old }
-        ensures beside { Self.Wired.log beside.new ≡ Self.Wired.log beside.old }
+        ensures console { Self.Console.log console.new ≡ Self.Console.log console.old }
         ensures failed { OnErr result (may_break self.now) };
 
     /// Tells in the log of the wires, if they have one, what was served since this was last asked.
@@ -269,13 +278,17 @@ fn watch(sockets: &mut AssociationSockets, others: &SocketWires) -> Result<(), U
 }
 
 impl<H: Host> Network for H {
-    type Wired = ServerSockets;
+    type Wired = AssociationSockets;
+
+    type Console = ConsoleSockets;
+
+    type Front = FrontSockets;
 
     ghost may_break = { λ _. Unit {0} };
 
     ghost listens = { λ _ _ _ _. Unit {0} };
 
-    ghost admits = { λ _ _ _. Unit {0} };
+    ghost admits = { λ _ _ _ _. Unit {0} };
 
     fn listen(&self, alloc: Global, listening: Listening<'_>) -> Result<Self::Wired, Unheard> {
         let Ok(address) = listening.address.parse::<IpAddr>() else {
@@ -287,10 +300,10 @@ impl<H: Host> Network for H {
             Some(logging) => Some(log_of(alloc, self.runtime(), logging)?),
             None => None,
         };
-        Ok(ServerSockets::Associations(AssociationSockets {
+        Ok(AssociationSockets {
             logged: LoggedWires { wires, log },
             counted: None,
-        }))
+        })
     }
 
     fn listen_beside(
@@ -299,82 +312,65 @@ impl<H: Host> Network for H {
         entrance: Entrance<'_>,
         institutions: &[Institution],
         wires: &mut Self::Wired,
-    ) -> Result<Self::Wired, Unheard> {
-        let ServerSockets::Associations(sockets) = wires else {
-            return Err(Unheard::Failed);
-        };
+    ) -> Result<(Self::Console, Self::Front), Unheard> {
         let console = match entrance.console {
             Some(path) => Some(console_at(alloc, self.runtime(), path)?),
             None => None,
         };
         if let Some(console) = &console {
-            watch(sockets, console)?;
+            watch(wires, console)?;
         }
         let front = match entrance.web {
             Some(web) => Some(front_at(alloc, self, web, institutions)?),
             None => None,
         };
         if let Some(front) = &front {
-            watch(sockets, &front.wires)?;
-            sockets.counted = Some(Counted::new(alloc));
+            watch(wires, &front.wires)?;
+            wires.counted = Some(Counted::new(alloc));
         }
-        Ok(ServerSockets::Callers(CallerSockets::new(console, front)))
+        Ok((ConsoleSockets { wires: console }, FrontSockets { front }))
     }
 
     fn rest(&self, wires: &mut Self::Wired, most: Duration) -> io::Result<()> {
-        let ServerSockets::Associations(sockets) = wires else {
-            return Ok(());
-        };
-        let rested = sockets.logged.wires.rest(self.runtime(), most);
-        sockets.logged.read_clock(self.runtime());
+        let rested = wires.logged.wires.rest(self.runtime(), most);
+        wires.logged.read_clock(self.runtime());
         rested
     }
 
     fn rest_with(
         &self,
         wires: &mut Self::Wired,
-        beside: &mut Self::Wired,
+        console: &mut Self::Console,
+        front: &mut Self::Front,
         most: Duration,
     ) -> io::Result<()> {
-        let ServerSockets::Associations(sockets) = wires else {
-            return Ok(());
-        };
-        let ServerSockets::Callers(callers) = beside else {
-            return Ok(());
-        };
-        callers.attend(sockets, self.runtime());
-        let most = if callers.is_busy() {
-            Duration::ZERO
-        } else {
-            most
-        };
-        callers.begin_turn();
-        let rested = sockets.logged.wires.rest_beside(self.runtime(), most);
-        sockets.logged.read_clock(self.runtime());
-        callers.look(self.runtime(), rested?)?;
-        callers.attend(sockets, self.runtime());
+        front.attend(wires, self.runtime());
+        let is_busy = console.is_busy() || front.is_busy();
+        let most = if is_busy { Duration::ZERO } else { most };
+        console.begin_turn();
+        front.begin_turn();
+        let rested = wires.logged.wires.rest_beside(self.runtime(), most);
+        wires.logged.read_clock(self.runtime());
+        let is_called = rested?;
+        console.look(self.runtime(), is_called)?;
+        front.look(self.runtime(), is_called)?;
+        front.attend(wires, self.runtime());
         Ok(())
     }
 
     fn tell<T: Tables>(&self, wires: &mut Self::Wired, turner: &mut Turner<T>) {
-        if let ServerSockets::Associations(sockets) = wires {
-            sockets.tell(turner, self.runtime());
-        }
+        wires.tell(turner, self.runtime());
     }
 
     fn note(&self, wires: &mut Self::Wired, notes: &str) {
-        if let ServerSockets::Associations(sockets) = wires {
-            if let Some(log) = &mut sockets.logged.log {
-                log.note(notes);
-            }
+        if let Some(log) = &mut wires.logged.log {
+            log.note(notes);
         }
     }
 
     fn note_stop(&self, wires: &mut Self::Wired, fault: Option<u8>) {
-        if let ServerSockets::Associations(sockets) = wires {
-            if let Some(log) = &mut sockets.logged.log {
-                log.stop(fault);
-            }
+        if let Some(log) = &mut wires.logged.log {
+            log.stop(fault);
         }
     }
 }

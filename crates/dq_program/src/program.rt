@@ -8,7 +8,8 @@ ghost use Rattle.dq_core.specs.Histories.{is_well_formed_history};
 ghost use Rattle.dq_core.specs.Shared.{world_after};
 ghost use Rattle.dq_captures.specs.Surroundings.{BreaksOff};
 ghost use Rattle.dq_words.specs.Words.{Errand, errand_asked, place_asked, request_asked, errand_in};
-ghost use Rattle.dq_program.specs.Program.{no_memory, status_of, IsTold, no_text_line, RefusesStore, AreHonest, EndsTask, CutsTask, StopsPlay, IsReplayed, rows_at, text_of, IsInStore, ClosesAt, AreAfter, unclosed_store};
+ghost use Rattle.dq_program.specs.Program.{no_memory, status_of, IsTold, no_text_line, RefusesStore, EndsTask, CutsTask, StopsPlay, IsReplayed, rows_at, text_of, IsInStore, ClosesAt, AreAfter, unclosed_store};
+ghost use Rattle.dq_desk.specs.Going.{AreHonest};
 ghost use Rattle.dq_program.specs.Errands.{IsDone, EndsEarly};
 
 use crate::answering::answer;
@@ -131,10 +132,10 @@ fn do_job<Rt: AllocGlobal + Folder + Stores + Network, R: Source, W: Sink>(
     output: &mut W,
 ) -> Result<(), Stop>
     ensures flushed { OnOk result (W.is_flushed output.new) }
-    ensures done { OnOk result (IsDone Rt.Wired.log (Rt.held rt.now) (Rt.stored rt.now)
+    ensures done { OnOk result (IsDone Rt.Wired.log Rt.Console.log (Rt.held rt.now) (Rt.stored rt.now)
         (Rt.migrated rt.now) (Rt.copied rt.now) (Rt.closed rt.now) (R.octets input)
         (W.written output.old) (W.written output.new) (errand_in job.entry)) }
-    ensures stops { IfErr result (EndsEarly Rt.Wired.log (Rt.held rt.now) (Rt.stored rt.now)
+    ensures stops { IfErr result (EndsEarly Rt.Wired.log Rt.Console.log (Rt.held rt.now) (Rt.stored rt.now)
         (R.octets input) (W.written output.old) (W.written output.new) (Rt.may_fail rt.now)
         (R.may_fail input) (W.may_fail output.old) (Rt.may_break rt.now) (errand_in job.entry)) }
 {
@@ -193,14 +194,14 @@ pub fn perform<Rt: AllocGlobal + Folder + Stores + Network, S: AsStr, R: Source,
     ensures refused { errand_asked (map S.text words.now) ≡ None → (result ≡ 1) ⊎ (result ≡ 4) }
     // At 0 all was done that the words ask for.
     ensures done { (errand : Errand) → errand_asked (map S.text words.now) ≡ Some errand → result ≡ 0 →
-        IsDone Rt.Wired.log (Rt.held rt.now) (Rt.stored rt.now) (Rt.migrated rt.now)
+        IsDone Rt.Wired.log Rt.Console.log (Rt.held rt.now) (Rt.stored rt.now) (Rt.migrated rt.now)
         (Rt.copied rt.now) (Rt.closed rt.now) (R.octets input) (W.written output.old)
         (W.written output.new) errand }
     // At any other status it stopped short of its end, as is told, and this is what was done.
     ensures stops { (errand : Errand) → errand_asked (map S.text words.now) ≡ Some errand → result ≢ 0 →
         (stop : Stop) × (result ≡ status_of stop)
         × IsTold (E.may_fail errors.old) (E.written errors.old) (E.written errors.new) stop
-        × EndsEarly Rt.Wired.log (Rt.held rt.now) (Rt.stored rt.now) (R.octets input)
+        × EndsEarly Rt.Wired.log Rt.Console.log (Rt.held rt.now) (Rt.stored rt.now) (R.octets input)
         (W.written output.old) (W.written output.new) (Rt.may_fail rt.now) (R.may_fail input)
         (W.may_fail output.old) (Rt.may_break rt.now) errand stop }
 {

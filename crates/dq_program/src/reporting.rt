@@ -1,15 +1,13 @@
 //! What is kept after a capture, counted.
-ghost use Rattle.std.specs.Prelude.{◌≡◌, ◌≢◌, ◌++◌, List, length, codes, false, IsTrue, IfOk, IfErr, OnOk, string_bytes};
-ghost use Rattle.std.specs.Fmt.{decimal};
+ghost use Rattle.std.specs.Prelude.{◌≡◌, ◌≢◌, false, IsTrue, IfOk, IfErr, OnOk};
 ghost use Rattle.std.specs.Io.KnownBytes.{Appends};
-ghost use Rattle.dq_tables.specs.declared.row.Row.{Row};
-ghost use Rattle.dq_tables.specs.Finding.{rows_of};
 ghost use Rattle.dq_core.specs.declared.fault.Fault.{Fault};
 ghost use Rattle.dq_core.specs.Histories.{is_well_formed_history};
 ghost use Rattle.dq_core.specs.Shared.{world_after};
 ghost use Rattle.dq_words.specs.declared.words.Task.TheVariants.{Report};
-ghost use Rattle.dq_program.specs.Program.{text_of, AreHonest, Breaks, EndsTask};
-ghost use Rattle.dq_captures.specs.Reports.{kind_word, count_text, report_line, names_of, report_text};
+ghost use Rattle.dq_program.specs.Program.{text_of, Breaks, EndsTask};
+ghost use Rattle.dq_desk.specs.Going.{AreHonest};
+ghost use Rattle.dq_captures.specs.Reports.{names_of, report_text};
 
 use crate::answering::outcome_of;
 use crate::reading::History;
@@ -17,128 +15,10 @@ use crate::stop::Stop;
 use dq_captures::Sink;
 use dq_config::Institution;
 use dq_core::{Fault, Outcome};
+use dq_desk::{Counting, all_counted, counted_text};
 use dq_list::Listed;
 use dq_tables::{Kind, Tables};
 use std::alloc::{AllocError, Global};
-
-/// Every kind of rows, in its order.
-pub static KINDS: [Kind; 5] = [
-    Kind::Study,
-    Kind::Series,
-    Kind::Image,
-    Kind::Entry,
-    Kind::Step,
-];
-
-fn kind_word(kind: Kind) -> &'static str
-    ensures { result.now ≡ kind_word kind }
-{
-    match kind {
-        Kind::Study => "studies",
-        Kind::Series => "series",
-        Kind::Image => "images",
-        Kind::Entry => "entries",
-        Kind::Step => "steps",
-    }
-}
-
-/// A count of rows of a kind, after the word for them.
-fn count_text(alloc: Global, kind: Kind, count: u64) -> Result<String, AllocError>
-    ensures { IfOk result (λ text. string_bytes text
-        ≡ codes " " ++ kind_word kind ++ codes " " ++ decimal count) }
-{
-    format!(in alloc; " {} {count}", kind_word(kind))
-}
-
-/// What rows are counted in.
-pub trait CountsRows {
-    /// The rows that are there.
-    ghost rows: { Self → List Row };
-
-    /// They are what is counted.
-    ghost is_honest: { Self → Type 0 };
-
-    /// Counts lead from one to the other.
-    ghost leads: { Self → Self → Type 0 };
-
-    /// Counts lead there, and end by this fault.
-    ghost fails: { Self → Self → Fault → Type 0 };
-
-    /// How many rows of a kind the institution of a name has.
-    fn count_rows(&mut self, kind: Kind, name: &[u8]) -> Result<u64, Fault>
-        ensures found { is_honest self.new → IfOk result (λ count.
-            count ≡ length (rows_of kind name.now (rows self.old))) }
-        ensures leads { OnOk result (leads self.old self.new) }
-        ensures fails { IfErr result (fails self.old self.new) };
-
-    ghost leads_nowhere: { (it : Self) → leads it it };
-
-    ghost leads_on: { (old mid new : Self) → leads old mid → leads mid new → leads old new };
-
-    ghost fails_later: { (old mid new : Self) (fault : Fault) → leads old mid
-        → fails mid new fault → fails old new fault };
-
-    ghost wants_memory: { (old new : Self) → leads old new → fails old new Fault.NoMemory };
-
-    ghost keeps_rows: { (old new : Self) → leads old new → is_honest new
-        → is_honest old × (rows new ≡ rows old) };
-}
-
-/// Adds how many rows of a kind an institution has.
-fn put_count<C: CountsRows>(
-    alloc: Global,
-    line: &mut Vec<u8>,
-    counts: &mut C,
-    name: &[u8],
-    kind: Kind,
-) -> Result<(), Fault>
-    ensures count { C.is_honest counts.new → OnOk result (line.new.items ≡ line.old.items
-        ++ count_text (C.rows counts.old) name.now kind) }
-    ensures leads { OnOk result (C.leads counts.old counts.new) }
-    ensures fails { IfErr result (C.fails counts.old counts.new) }
-{
-    let count = counts.count_rows(kind, name)?;
-    line.extend_from_slice(count_text(alloc, kind, count)?.as_bytes())?;
-    Ok(())
-}
-
-/// Adds the line of an institution.
-pub fn put_line<C: CountsRows>(
-    alloc: Global,
-    text: &mut Vec<u8>,
-    counts: &mut C,
-    name: &[u8],
-) -> Result<(), Fault>
-    ensures line { C.is_honest counts.new → OnOk result (text.new.items ≡ text.old.items
-        ++ report_line (C.rows counts.old) name.now) }
-    ensures leads { OnOk result (C.leads counts.old counts.new) }
-    ensures fails { IfErr result (C.fails counts.old counts.new) }
-{
-    text.extend_from_slice(name)?;
-    for kind in &KINDS {
-        put_count(alloc, text, counts, name, *kind)?;
-    }
-    text.push(b'\n')?;
-    Ok(())
-}
-
-/// The lines of institutions.
-pub fn lines_of<C: CountsRows>(
-    alloc: Global,
-    counts: &mut C,
-    names: &[Listed<u8>],
-) -> Result<Vec<u8>, Fault>
-    ensures lines { C.is_honest counts.new → IfOk result (λ text. text.items
-        ≡ report_text (C.rows counts.old) names.now) }
-    ensures leads { OnOk result (C.leads counts.old counts.new) }
-    ensures fails { IfErr result (C.fails counts.old counts.new) }
-{
-    let mut text = Vec::new(alloc);
-    for name in names {
-        put_line(alloc, &mut text, counts, name.as_slice())?;
-    }
-    Ok(text)
-}
 
 /// Tables, as what is kept after a history.
 #[derive(Drop)]
@@ -146,7 +26,7 @@ pub struct Kept<T> {
     pub tables: T,
 }
 
-impl<T: Tables> CountsRows for Kept<T> {
+impl<T: Tables> Counting for Kept<T> {
     ghost use Rattle.std.proofs.Common.{refl, ◌∙◌};
 
     ghost rows = { λ kept. (T.state kept.tables).rows };
@@ -201,6 +81,22 @@ fn kept_after<T: Tables + Drop>(alloc: Global, history: History, tables: T) -> R
         None => Ok(tables),
         Some(fault) => Err(fault),
     }
+}
+
+/// The lines of institutions, each with how much it keeps.
+fn lines_of<C: Counting>(
+    alloc: Global,
+    rows: &mut C,
+    names: &[Listed<u8>],
+) -> Result<Vec<u8>, Fault>
+    ensures lines { C.is_honest rows.new → IfOk result (λ text. text.items
+        ≡ report_text (C.rows rows.old) names.now) }
+    ensures leads { OnOk result (C.leads rows.old rows.new) }
+    ensures fails { IfErr result (C.fails rows.old rows.new) }
+{
+    let all = all_counted(alloc, rows, names)?;
+    let text = counted_text(alloc, all.as_slice())?;
+    Ok(text)
 }
 
 /// The text of a report, and what keeps the rows that it counts.

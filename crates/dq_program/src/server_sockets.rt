@@ -1,35 +1,24 @@
-//! The sockets of the program: those of associations, with their log, and those of callers.
-ghost use Rattle.std.specs.Prelude.{◌≡◌, ◌≤◌, length, IfOk};
+//! The sockets of the program: those of associations, with their log, those of the console, and the web front.
+ghost use Rattle.std.specs.Prelude.{◌≡◌, ◌≤◌, length, option_copied, IfOk};
 ghost use Rattle.dq_wires.specs.Logs.{IfGot, failures_after_accept};
 
 use dq_assoc::Service;
 use dq_captures::Host;
 use dq_core::{Note, Noted, Notes};
+use dq_desk::Asks;
 use dq_front::Front;
+use dq_request::{Request, Response};
 use dq_tables::Tables;
 use dq_web::{Counters, Service as CountedService};
 use dq_wires::{
-    Called, LogEnd, LoggedWires, MOST_WIRES, ReadTurn, SocketClient, SocketWires, Turner,
-    WireFault, Wires,
+    Called, LogEnd, LoggedWires, ReadTurn, SocketClient, SocketWires, Turner, WireFault, Wires,
 };
 use std::alloc::Global;
 use std::time::{Duration, Instant};
 use std::{fs, io};
 
-/// The most callers of the console while there is a web front, for which a place is left.
-const MOST_BESIDE_FRONT: usize = 7;
-
 /// The octets of a page of memory.
 const PAGE_OCTETS: u64 = 4096;
-
-/// Sockets of the program.
-#[derive(Drop)]
-pub enum ServerSockets {
-    /// Those on which associations come.
-    Associations(AssociationSockets),
-    /// Those of callers of the console and of the web front.
-    Callers(CallerSockets),
-}
 
 /// Sockets whose connections are told of in a log, if there is one, and counted, if that is asked.
 #[derive(Drop)]
@@ -38,13 +27,16 @@ pub struct AssociationSockets {
     pub counted: Option<Counted>,
 }
 
-/// The sockets of the console and the web front, as far as they are there.
+/// The sockets of the console, if there is one.
 #[derive(Drop)]
-pub struct CallerSockets {
-    console: Option<SocketWires>,
-    front: Option<Front<SocketWires>>,
-    // How many callers of the console there are.
-    calling: usize,
+pub struct ConsoleSockets {
+    pub wires: Option<SocketWires>,
+}
+
+/// The web front, if there is one.
+#[derive(Drop)]
+pub struct FrontSockets {
+    pub front: Option<Front<SocketWires>>,
 }
 
 /// Counts of what was served, the numbers of the connections with an association, and when the turn
@@ -156,16 +148,107 @@ impl AssociationSockets {
     }
 }
 
-impl CallerSockets {
-    /// The sockets of a console and of a web front, as far as they are there.
-    pub fn new(console: Option<SocketWires>, front: Option<Front<SocketWires>>) -> Self {
-        CallerSockets {
-            console,
-            front,
-            calling: 0,
+impl Wires for AssociationSockets {
+    ghost use Rattle.std.specs.Prelude.{None};
+
+    ghost log = { λ _. None };
+
+    ghost failed_accepts = { λ sockets. ⟦<SocketWires as Wires>⟧.failed_accepts sockets.logged.wires };
+
+    fn accept(&mut self) -> Result<Option<usize>, WireFault> {
+        self.logged.accept()
+    }
+
+    fn read(&mut self, place: usize, buffer: &mut [u8]) -> Result<ReadTurn, WireFault> {
+        self.logged.read(place, buffer)
+    }
+
+    fn write(&mut self, place: usize, octets: &[u8]) -> Result<usize, WireFault> {
+        self.logged.write(place, octets)
+    }
+
+    fn shut(&mut self, place: usize) -> Result<(), WireFault> {
+        self.logged.shut(place)
+    }
+}
+
+impl<H: Host> Called<H> for AssociationSockets {
+    fn connect(&self, machine: &H) -> Result<SocketClient, WireFault> {
+        match self.logged.wires.address() {
+            Ok(address) => SocketClient::connect(machine.runtime(), address).or(Err(WireFault)),
+            Err(_) => Err(WireFault),
         }
     }
 
+    fn look(&mut self, machine: &H) -> Result<(), WireFault> {
+        let looked = self.logged.wires.rest(machine.runtime(), Duration::ZERO);
+        looked.or(Err(WireFault))
+    }
+}
+
+impl ConsoleSockets {
+    /// Whether calls did something in this turn.
+    pub fn is_busy(&self) -> bool {
+        match &self.wires {
+            Some(wires) => wires.is_busy(),
+            None => false,
+        }
+    }
+
+    /// Begins a turn: nothing was done in it yet.
+    pub fn begin_turn(&mut self) {
+        if let Some(wires) = &mut self.wires {
+            wires.begin_turn();
+        }
+    }
+
+    /// Looks what may be done, after the sockets beside these rested.
+    pub fn look(&mut self, clock: &HostRuntime, is_called: bool) -> io::Result<()> {
+        match &mut self.wires {
+            Some(wires) => wires.look_beside(clock, is_called),
+            None => Ok(()),
+        }
+    }
+}
+
+impl Wires for ConsoleSockets {
+    ghost use Rattle.std.specs.Prelude.{None, option_map, unwrap_or};
+
+    ghost log = { λ _. None };
+
+    ghost failed_accepts = { λ sockets.
+        unwrap_or (option_map (⟦<SocketWires as Wires>⟧.failed_accepts) sockets.wires) 0 };
+
+    fn accept(&mut self) -> Result<Option<usize>, WireFault> {
+        match &mut self.wires {
+            Some(wires) => wires.accept(),
+            None => Ok(None),
+        }
+    }
+
+    fn read(&mut self, place: usize, buffer: &mut [u8]) -> Result<ReadTurn, WireFault> {
+        match &mut self.wires {
+            Some(wires) => wires.read(place, buffer),
+            None => Err(WireFault),
+        }
+    }
+
+    fn write(&mut self, place: usize, octets: &[u8]) -> Result<usize, WireFault> {
+        match &mut self.wires {
+            Some(wires) => wires.write(place, octets),
+            None => Err(WireFault),
+        }
+    }
+
+    fn shut(&mut self, place: usize) -> Result<(), WireFault> {
+        match &mut self.wires {
+            Some(wires) => wires.shut(place),
+            None => Err(WireFault),
+        }
+    }
+}
+
+impl FrontSockets {
     /// The turn of the web front. A request for metrics is answered by the counts of what was served.
     /// The notes go to the log.
     pub fn attend(&mut self, beside: &mut AssociationSockets, rt: &HostRuntime) {
@@ -188,21 +271,14 @@ impl CallerSockets {
 
     /// Whether there is something to do that no octet has to come for, or was in this turn.
     pub fn is_busy(&self) -> bool {
-        let is_called = match &self.console {
-            Some(console) => console.is_busy(),
-            None => false,
-        };
         match &self.front {
-            Some(front) => is_called || front.is_busy() || front.wires.is_busy(),
-            None => is_called,
+            Some(front) => front.is_busy() || front.wires.is_busy(),
+            None => false,
         }
     }
 
     /// Begins a turn: nothing was done in it yet.
     pub fn begin_turn(&mut self) {
-        if let Some(console) = &mut self.console {
-            console.begin_turn();
-        }
         if let Some(front) = &mut self.front {
             front.wires.begin_turn();
         }
@@ -210,143 +286,32 @@ impl CallerSockets {
 
     /// Looks what may be done, after the sockets beside these rested.
     pub fn look(&mut self, clock: &HostRuntime, is_called: bool) -> io::Result<()> {
-        if let Some(console) = &mut self.console {
-            console.look_beside(clock, is_called)?;
+        match &mut self.front {
+            Some(front) => front.wires.look_beside(clock, is_called),
+            None => Ok(()),
         }
+    }
+}
+
+impl Asks for FrontSockets {
+    ghost use Rattle.std.specs.Option.{option_and_then};
+    ghost use Rattle.dq_front.specs.Waiting.{next_of};
+    ghost use Rattle.dq_program.specs.Fronts.{IsAnswered};
+
+    ghost waiting = { λ sockets. option_and_then next_of sockets.front };
+
+    ghost answers = { λ old new response. IsAnswered old.front new.front response };
+
+    fn next(&self) -> Option<&Request> {
+        match &self.front {
+            Some(front) => front.next(),
+            None => None,
+        }
+    }
+
+    fn answer(&mut self, response: &Response) {
         if let Some(front) = &mut self.front {
-            front.wires.look_beside(clock, is_called)?;
+            front.answer(response);
         }
-        Ok(())
-    }
-
-    // Whether a further caller of the console has a place.
-    fn has_room(&self) -> bool {
-        self.front.is_none() || self.calling < MOST_BESIDE_FRONT
-    }
-}
-
-impl Wires for CallerSockets {
-    ghost use Rattle.std.specs.Prelude.{None, option_map, unwrap_or};
-
-    ghost log = { λ _. None };
-
-    ghost failed_accepts = { λ sockets. unwrap_or (option_map (⟦<SocketWires as Wires>⟧.failed_accepts) sockets.console) 0 };
-
-    fn accept(&mut self) -> Result<Option<usize>, WireFault> {
-        if let Some(front) = &mut self.front {
-            if let Ok(Some(place)) = front.accept() {
-                return Ok(Some(place.saturating_add(MOST_WIRES)));
-            }
-        }
-        if !self.has_room() {
-            return Ok(None);
-        }
-        let Some(console) = &mut self.console else {
-            return Ok(None);
-        };
-        let came = console.accept()?;
-        if came.is_some() {
-            self.calling = self.calling.saturating_add(1);
-        }
-        Ok(came)
-    }
-
-    fn read(&mut self, place: usize, buffer: &mut [u8]) -> Result<ReadTurn, WireFault> {
-        match (
-            place.checked_sub(MOST_WIRES),
-            &mut self.front,
-            &mut self.console,
-        ) {
-            (Some(place), Some(front), _) => front.read(place, buffer),
-            (None, _, Some(console)) => console.read(place, buffer),
-            _ => Err(WireFault),
-        }
-    }
-
-    fn write(&mut self, place: usize, octets: &[u8]) -> Result<usize, WireFault> {
-        match (
-            place.checked_sub(MOST_WIRES),
-            &mut self.front,
-            &mut self.console,
-        ) {
-            (Some(place), Some(front), _) => front.write(place, octets),
-            (None, _, Some(console)) => console.write(place, octets),
-            _ => Err(WireFault),
-        }
-    }
-
-    fn shut(&mut self, place: usize) -> Result<(), WireFault> {
-        match (
-            place.checked_sub(MOST_WIRES),
-            &mut self.front,
-            &mut self.console,
-        ) {
-            (Some(place), Some(front), _) => front.shut(place),
-            (None, _, Some(console)) => {
-                self.calling = self.calling.saturating_sub(1);
-                console.shut(place)
-            }
-            _ => Err(WireFault),
-        }
-    }
-}
-
-impl Wires for ServerSockets {
-    ghost use Rattle.std.specs.Prelude.{None};
-    ghost use Rattle.dq_program.specs.declared.server_sockets.ServerSockets.TheVariants.{Associations, Callers};
-
-    ghost log = { λ _. None };
-
-    ghost failed_accepts = { λ sockets. elim sockets [
-      | Associations it ↦ ⟦<SocketWires as Wires>⟧.failed_accepts it.logged.wires
-      | Callers it ↦ ⟦<CallerSockets as Wires>⟧.failed_accepts it
-    ] };
-
-    fn accept(&mut self) -> Result<Option<usize>, WireFault> {
-        match self {
-            ServerSockets::Associations(sockets) => sockets.logged.accept(),
-            ServerSockets::Callers(sockets) => sockets.accept(),
-        }
-    }
-
-    fn read(&mut self, place: usize, buffer: &mut [u8]) -> Result<ReadTurn, WireFault> {
-        match self {
-            ServerSockets::Associations(sockets) => sockets.logged.read(place, buffer),
-            ServerSockets::Callers(sockets) => sockets.read(place, buffer),
-        }
-    }
-
-    fn write(&mut self, place: usize, octets: &[u8]) -> Result<usize, WireFault> {
-        match self {
-            ServerSockets::Associations(sockets) => sockets.logged.write(place, octets),
-            ServerSockets::Callers(sockets) => sockets.write(place, octets),
-        }
-    }
-
-    fn shut(&mut self, place: usize) -> Result<(), WireFault> {
-        match self {
-            ServerSockets::Associations(sockets) => sockets.logged.shut(place),
-            ServerSockets::Callers(sockets) => sockets.shut(place),
-        }
-    }
-}
-
-impl<H: Host> Called<H> for ServerSockets {
-    fn connect(&self, machine: &H) -> Result<SocketClient, WireFault> {
-        let ServerSockets::Associations(sockets) = self else {
-            return Err(WireFault);
-        };
-        match sockets.logged.wires.address() {
-            Ok(address) => SocketClient::connect(machine.runtime(), address).or(Err(WireFault)),
-            Err(_) => Err(WireFault),
-        }
-    }
-
-    fn look(&mut self, machine: &H) -> Result<(), WireFault> {
-        let ServerSockets::Associations(sockets) = self else {
-            return Err(WireFault);
-        };
-        let looked = sockets.logged.wires.rest(machine.runtime(), Duration::ZERO);
-        looked.or(Err(WireFault))
     }
 }

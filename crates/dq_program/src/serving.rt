@@ -11,12 +11,12 @@ ghost use Rattle.dq_words.specs.Words.{place_asked, callers_of, serving_in, web_
 ghost use Rattle.dq_captures.specs.Reports.{names_of};
 ghost use Rattle.dq_captures.specs.Surroundings.{BreaksOff};
 ghost use Rattle.dq_tables.specs.declared.row.Row.{Row};
-ghost use Rattle.dq_program.specs.Program.{AreHonest, IsConfigured, IsInStore, rows_at, ClosesAt};
+ghost use Rattle.dq_program.specs.Program.{IsConfigured, IsInStore, rows_at, ClosesAt};
+ghost use Rattle.dq_desk.specs.Going.{AreHonest};
 ghost use Rattle.dq_program.specs.Rounds.{RoundsWent, RoundsCut, Beside, BesideCut};
 ghost use Rattle.dq_program.specs.Serving.{ready_text, turn_count, limit_of, nanoseconds, AreLimits, ListensAs, IsUncalled, ArePlain, ArePlainTo, IsUnheard, Served, ServedUpTo, EndsService, StopsService};
 
-use crate::backup::{Backups, OfFiles, OfMemory};
-use crate::desk::Desk;
+use crate::backup::OfFiles;
 use crate::network::{Entrance, Listening, Logging, Network};
 use crate::reading::configured;
 use crate::reporting::names_of;
@@ -25,6 +25,7 @@ use crate::stores::Stores;
 use dq_captures::{Folder, Sink, put_numbered};
 use dq_config::Institution;
 use dq_core::Server;
+use dq_desk::{Backups, Desk, OfMemory};
 use dq_tables::Tables;
 use dq_wires::laws::{calls_are_a_serving, servings_are_answered};
 use dq_wires::{Limits, TurnFault, Turner, Wires, turn_all};
@@ -32,11 +33,11 @@ use dq_words::{Keeper, Service};
 use std::alloc::Global;
 use std::time::Duration;
 
-/// Where connections come in beside a console: their wires, and the console.
+/// Where connections come in beside a console and a web front: their wires, and the desk of these.
 #[derive(Drop)]
-struct Reception<W> {
-    wires: W,
-    desk: Desk<W>,
+struct Reception<N: Network> {
+    wires: N::Wired,
+    desk: Desk<N::Console, N::Front>,
 }
 
 /// The file by which callers come in that are no associations, if they do.
@@ -57,11 +58,11 @@ fn desk_beside<N: Network>(
     service: Service<'_>,
     institutions: &[Institution],
     wires: &mut N::Wired,
-) -> Result<Desk<N::Wired>, Stop>
+) -> Result<Desk<N::Console, N::Front>, Stop>
     ensures same { N.Wired.log wires.new ≡ N.Wired.log wires.old }
-    ensures uncalled { IfOk result (λ desk. IsUncalled (N.Wired.log desk.clerk.wires)) }
+    ensures uncalled { IfOk result (λ desk. IsUncalled (N.Console.log desk.clerk.wires)) }
     ensures callers { IfOk result (λ desk. desk.callers.items ≡ []) }
-    ensures admits { IfOk result (λ desk. N.admits desk.clerk.wires
+    ensures admits { IfOk result (λ desk. N.admits desk.clerk.wires desk.front
         (option_copied service.entry.console) (option_map web_front_in service.entry.web)) }
     ensures names { IfOk result (λ desk. desk.clerk.names.items ≡ names_of institutions.now) }
     ensures stops { IfErr result (IsUnheard (N.may_break network.now)) }
@@ -71,7 +72,9 @@ fn desk_beside<N: Network>(
         web: service.web,
     };
     let beside = network.listen_beside(alloc, entrance, institutions, wires)?;
-    Ok(Desk::new(alloc, beside, names_of(alloc, institutions)?)?)
+    let (console, front) = beside;
+    let names = names_of(alloc, institutions)?;
+    Ok(Desk::new(alloc, console, front, names)?)
 }
 
 /// A count, where it is limited: 0 is no limit.
@@ -202,15 +205,15 @@ fn turn_beside<N: Network, T: Tables, B: Backups<T>>(
     network: &N,
     backups: &B,
     turner: &mut Turner<T>,
-    reception: &mut Reception<N::Wired>,
+    reception: &mut Reception<N>,
     rest: Duration,
 ) -> Result<(), Stop>
     requires working { turner.old.fault ≡ None }
     ensures went { OnOk result (RoundsWent T.state (N.Wired.log reception.old.wires)
         (N.Wired.log reception.new.wires) turner.old turner.new 1
         (Beside T.state reception.old.desk.clerk.names.items (N.Wired.log reception.old.wires)
-        turner.old (N.Wired.log reception.old.desk.clerk.wires)
-        (N.Wired.log reception.new.desk.clerk.wires)
+        turner.old (N.Console.log reception.old.desk.clerk.wires)
+        (N.Console.log reception.new.desk.clerk.wires)
         reception.old.desk.callers.items reception.new.desk.callers.items)) }
     ensures names { OnOk result
         (reception.new.desk.clerk.names.items ≡ reception.old.desk.clerk.names.items) }
@@ -218,8 +221,8 @@ fn turn_beside<N: Network, T: Tables, B: Backups<T>>(
         (N.Wired.log reception.old.wires) (N.Wired.log reception.new.wires) turner.old
         turner.new.server 1 (BesideCut T.state
         reception.old.desk.clerk.names.items (N.Wired.log reception.old.wires) turner.old
-        (N.Wired.log reception.old.desk.clerk.wires)
-        (N.Wired.log reception.new.desk.clerk.wires) reception.old.desk.callers.items)) }
+        (N.Console.log reception.old.desk.clerk.wires)
+        (N.Console.log reception.new.desk.clerk.wires) reception.old.desk.callers.items)) }
 {
     calls_are_a_serving::<T>();
     turn_told(network, turner, &mut reception.wires)?;
@@ -227,11 +230,14 @@ fn turn_beside<N: Network, T: Tables, B: Backups<T>>(
     reception.desk.turn(turner, backups)?;
     let notes = reception.desk.take_notes();
     network.note(&mut reception.wires, notes.as_str());
-    let beside = &mut reception.desk.clerk.wires;
-    if network
-        .rest_with(&mut reception.wires, beside, rest)
-        .is_err()
-    {
+    let desk = &mut reception.desk;
+    let rested = network.rest_with(
+        &mut reception.wires,
+        &mut desk.clerk.wires,
+        &mut desk.front,
+        rest,
+    );
+    if rested.is_err() {
         return Err(Stop::Network);
     }
     Ok(())
@@ -263,15 +269,15 @@ fn turn_noted_beside<N: Network, T: Tables, B: Backups<T>>(
     network: &N,
     backups: &B,
     turner: &mut Turner<T>,
-    reception: &mut Reception<N::Wired>,
+    reception: &mut Reception<N>,
     rest: Duration,
 ) -> Result<(), Stop>
     requires working { turner.old.fault ≡ None }
     ensures went { OnOk result (RoundsWent T.state (N.Wired.log reception.old.wires)
         (N.Wired.log reception.new.wires) turner.old turner.new 1
         (Beside T.state reception.old.desk.clerk.names.items (N.Wired.log reception.old.wires)
-        turner.old (N.Wired.log reception.old.desk.clerk.wires)
-        (N.Wired.log reception.new.desk.clerk.wires)
+        turner.old (N.Console.log reception.old.desk.clerk.wires)
+        (N.Console.log reception.new.desk.clerk.wires)
         reception.old.desk.callers.items reception.new.desk.callers.items)) }
     ensures names { OnOk result
         (reception.new.desk.clerk.names.items ≡ reception.old.desk.clerk.names.items) }
@@ -279,8 +285,8 @@ fn turn_noted_beside<N: Network, T: Tables, B: Backups<T>>(
         (N.Wired.log reception.old.wires) (N.Wired.log reception.new.wires) turner.old
         turner.new.server 1 (BesideCut T.state
         reception.old.desk.clerk.names.items (N.Wired.log reception.old.wires) turner.old
-        (N.Wired.log reception.old.desk.clerk.wires)
-        (N.Wired.log reception.new.desk.clerk.wires) reception.old.desk.callers.items)) }
+        (N.Console.log reception.old.desk.clerk.wires)
+        (N.Console.log reception.new.desk.clerk.wires) reception.old.desk.callers.items)) }
 {
     let turned = turn_beside(network, backups, turner, reception, rest);
     if let Err(stop) = turned {
@@ -339,15 +345,15 @@ fn serve_beside<N: Network, T: Tables, B: Backups<T>>(
     network: &N,
     backups: &B,
     turner: &mut Turner<T>,
-    reception: &mut Reception<N::Wired>,
+    reception: &mut Reception<N>,
     pace: Pace,
 ) -> Result<(), Stop>
     requires working { turner.old.fault ≡ None }
     ensures went { OnOk result (RoundsWent T.state (N.Wired.log reception.old.wires)
         (N.Wired.log reception.new.wires) turner.old turner.new pace.turns
         (Beside T.state reception.old.desk.clerk.names.items (N.Wired.log reception.old.wires)
-        turner.old (N.Wired.log reception.old.desk.clerk.wires)
-        (N.Wired.log reception.new.desk.clerk.wires)
+        turner.old (N.Console.log reception.old.desk.clerk.wires)
+        (N.Console.log reception.new.desk.clerk.wires)
         reception.old.desk.callers.items reception.new.desk.callers.items)) }
     ensures names { OnOk result
         (reception.new.desk.clerk.names.items ≡ reception.old.desk.clerk.names.items) }
@@ -355,8 +361,8 @@ fn serve_beside<N: Network, T: Tables, B: Backups<T>>(
         (N.Wired.log reception.old.wires) (N.Wired.log reception.new.wires) turner.old
         turner.new.server pace.turns (BesideCut T.state
         reception.old.desk.clerk.names.items (N.Wired.log reception.old.wires) turner.old
-        (N.Wired.log reception.old.desk.clerk.wires)
-        (N.Wired.log reception.new.desk.clerk.wires) reception.old.desk.callers.items)) }
+        (N.Console.log reception.old.desk.clerk.wires)
+        (N.Console.log reception.new.desk.clerk.wires) reception.old.desk.callers.items)) }
 {
     for _turn in 0..pace.turns {
         turn_noted_beside(network, backups, turner, reception, pace.rest)?;
@@ -394,12 +400,12 @@ pub fn serve_by<N: AllocGlobal + Network, T: Tables + Drop, B: Backups<T>, W: Si
     ensures ready { OnOk result (Appends (W.written output.old) (W.written output.new)
         (ready_text service.entry.port)) }
     ensures flushed { OnOk result (W.is_flushed output.new) }
-    ensures served { AreHonest T.state → IfOk result (λ tables. Served N.Wired.log
+    ensures served { AreHonest T.state → IfOk result (λ tables. Served N.Wired.log N.Console.log
         server.institutions (T.state server.tables).rows (turn_count service.entry.turns)
         (callers_of (serving_in service.entry)) (T.state tables).rows) }
     ensures ends { IfErr result (EndsService (N.may_break network.now) (W.may_fail output.old)
         (W.written output.old) (W.written output.new) service.entry.port (λ stop.
-        AreHonest T.state → ServedUpTo N.Wired.log (N.may_break network.now)
+        AreHonest T.state → ServedUpTo N.Wired.log N.Console.log (N.may_break network.now)
         server.institutions (T.state server.tables).rows (turn_count service.entry.turns)
         (callers_of (serving_in service.entry)) stop)) }
 {
@@ -439,12 +445,12 @@ pub fn serve<Rt: AllocGlobal + Folder + Stores + Network, W: Sink>(
     ensures served { OnOk result ((institutions : List Institution)
         × IsConfigured (Rt.held rt.now) (option_copied service.entry.config) institutions
         × IfSome (rows_at (Rt.stored rt.now) (place_asked service.entry.keeper)) (λ rows.
-        (kept : List Row) × Served Rt.Wired.log institutions rows (turn_count service.entry.turns)
+        (kept : List Row) × Served Rt.Wired.log Rt.Console.log institutions rows (turn_count service.entry.turns)
         (callers_of (serving_in service.entry)) kept
         × (IsInStore (place_asked service.entry.keeper) → Rt.closed rt.now kept))) }
     ensures closed { OnOk result (ClosesAt (place_asked service.entry.keeper) (Rt.closed rt.now)
         (λ _. Unit {0})) }
-    ensures stops { IfErr result (StopsService Rt.Wired.log (Rt.held rt.now) (Rt.stored rt.now)
+    ensures stops { IfErr result (StopsService Rt.Wired.log Rt.Console.log (Rt.held rt.now) (Rt.stored rt.now)
         (W.written output.old) (W.written output.new) (serving_in service.entry)
         (Rt.may_break rt.now) (Rt.may_fail rt.now) (W.may_fail output.old)) }
 {

@@ -3,9 +3,9 @@ ghost use Rattle.std.specs.Prelude.{◌≡◌, false, ℕ, List, [], length, map
 ghost use Rattle.dq_tables.specs.declared.row.Row.{Row};
 ghost use Rattle.dq_core.specs.Looking.{LeavesAlone};
 ghost use Rattle.dq_core.specs.Soundness.{HoldSound};
-ghost use Rattle.dq_program.specs.Backups.{refusal_text};
 
 use crate::stop::Stop;
+use dq_request::Uncopied;
 use dq_tables::Tables;
 use std::alloc::Global;
 
@@ -22,35 +22,6 @@ pub enum Unkept {
 /// together hold the rows.
 #[derive(Clone, Copy, Debug, PartialEq, Eq)]
 pub struct Unclosed;
-
-/// The reason why a store was not copied.
-#[derive(Clone, Copy, Debug, PartialEq, Eq)]
-pub enum Uncopied {
-    /// There is something at the path already.
-    Taken,
-    /// The disk is full.
-    Full,
-    /// One of the two stores failed, or there can be no file at the path.
-    Failed,
-    NoMemory,
-    /// The rows are in memory alone.
-    NoStore,
-}
-
-impl Uncopied {
-    /// The line that tells it.
-    pub fn text(self) -> &'static str
-        ensures { result.now ≡ refusal_text self }
-    {
-        match self {
-            Uncopied::Taken => "refused taken\n",
-            Uncopied::Full => "refused full\n",
-            Uncopied::Failed => "refused failed\n",
-            Uncopied::NoMemory => "refused memory\n",
-            Uncopied::NoStore => "refused no store\n",
-        }
-    }
-}
 
 /// What keeps rows.
 pub trait Stores {

@@ -3,7 +3,8 @@ use dq_keepers::{
     CopyFault, RowsInFile, RowsInMemory, back_up, close_store, copy_store, create_store,
     migrate_store, open_store,
 };
-use dq_program::{Host, Stores, Unclosed, Uncopied, Unkept};
+use dq_program::{Host, Stores, Unclosed, Unkept};
+use dq_request::Uncopied;
 use dq_sql::{MigrateFault, StoreFault};
 use dq_tables::Tables;
 use sqlite::{FileFrom, Wary};

@@ -1,3 +1,3 @@
 pub mod Among
 pub mod Orders
-pub mod Wishes
+pub mod Taking

@@ -1,198 +1,203 @@
--- How what the console told becomes a response.
-use Rattle.std.specs.Prelude.{◌≡◌, ◌≢◌, ◌⊎◌, ℕ, ◌==◌, ◌++◌, ◌||◌, Bool, true, false, IsUtf8, IsTrue, if◌then◌else◌, List, [], length, map, codes}
-use Rattle.std.specs.Char.{is_ascii_digit}
+-- How what the server answered becomes a response of HTTP.
+use Rattle.std.specs.Prelude.{◌≡◌, ℕ, ◌==◌, ◌++◌, ◌||◌, ◌&&◌, nat_le, Bool, false, if◌then◌else◌, List, [], ◌∷◌, flat_map, find, codes, Option, Some}
 use Rattle.std.specs.Fmt.{decimal}
-use Rattle.std.specs.List.{list_all, starts_with}
 use Rattle.std.specs.Str.{bytes_eq}
-use Rattle.std.specs.Str.Lines.{lines}
-use Rattle.dq_list.specs.Among.{IsAmong}
+use Rattle.json.specs.Print.{print}
 use Rattle.dq_config.specs.declared.config.Institution.{Institution}
+use Rattle.dq_dataset.specs.Tree.{ElementList}
+use Rattle.dq_json.specs.Json.{json_tokens}
+use Rattle.dq_request.specs.declared.request.Request.{Request}
+use Rattle.dq_request.specs.declared.request.Request.TheVariants as ask
+use Rattle.dq_request.specs.declared.response.Cause.{Cause}
+use Rattle.dq_request.specs.declared.response.Cause.TheVariants as cause
+use Rattle.dq_request.specs.declared.response.Counted.{Counted}
+use Rattle.dq_request.specs.declared.response.Counts.{Counts}
+use Rattle.dq_request.specs.declared.response.Response.{Response}
+use Rattle.dq_request.specs.declared.response.Response.TheVariants as told
+use Rattle.dq_request.specs.declared.response.Uncopied.{Uncopied}
+use Rattle.dq_request.specs.declared.response.Uncopied.TheVariants as uncopied
+use Rattle.dq_request.specs.Responses.{cause_text}
 use Rattle.dq_web.specs.declared.asking.Document.{Document}
 use Rattle.dq_web.specs.declared.asking.Document.TheVariants as document
-use Rattle.dq_web.specs.declared.asking.Form.{Form}
-use Rattle.dq_web.specs.declared.asking.Form.TheVariants as form
 use Rattle.dq_web.specs.declared.asking.Question.{Question}
 use Rattle.dq_web.specs.declared.asking.Wish.{Wish}
-use Rattle.dq_web.specs.declared.answering.Counts.{Counts}
 use Rattle.dq_web.specs.declared.answering.TheConstants.{STUDIES, SERIES, IMAGES, ENTRIES, STEPS, LIMIT, CLOSE}
 use Rattle.dq_web.specs.declared.page.TheConstants.{INDEX, STYLE, SCRIPT}
+use Rattle.dq_web.specs.declared.refusal.Refusal.{Refusal}
 use Rattle.dq_web.specs.declared.replies.Framing.{Framing}
-use Rattle.dq_web.specs.declared.replies.Reply.{Reply}
+use Rattle.dq_web.specs.declared.replies.Kind.{Kind}
 use Rattle.dq_web.specs.declared.replies.Kind.TheVariants as kind
+use Rattle.dq_web.specs.declared.replies.Reply.{Reply}
+use Rattle.dq_web.specs.declared.replies.Written.{Written}
 use Rattle.dq_web.specs.declared.status.Status.{Status}
 use Rattle.dq_web.specs.declared.status.Status.TheVariants as status
-use Rattle.dq_web.specs.Responses.{response_text}
+use Rattle.dq_web.specs.Responses.{refusal_status, refusal_word, response_text}
 
--- the order is done
-abbrev pub is_done : List ℕ → Bool
-is_done told = bytes_eq told (codes "done\n")
+-- a response with a body
+abbrev pub plain : Status → Kind → List ℕ → Reply
+plain status what body = record { status = status; kind = what; body = body; is_literal = false }
 
--- a comma in place of a line feed
-abbrev pub comma_for : ℕ → ℕ
-comma_for octet = if octet == 10 then 44 else octet
+-- ---- refusals
 
--- what was told is answers, a line each, and then their number behind `end`
-abbrev pub SplitsAnswers : List ℕ → List ℕ → Type 0
-SplitsAnswers told front = (number : List ℕ) × (told ≡ front ++ (codes "\nend " ++ number))
+-- An octet in a text of JSON (RFC 8259 section 7). What is not printable ASCII becomes a question mark.
+abbrev pub escaped_octet : ℕ → List ℕ
+escaped_octet octet = (if octet == 34 || octet == 92 then codes "\\" else [])
+    ++ (if nat_le 0x20 octet && nat_le octet 0x7E then octet else 63) ∷ []
 
-abbrev pub HasNoAnswers : List ℕ → Type 0
-HasNoAnswers told = (IsUtf8 told → ⊥)
-    ⊎ ((front number : List ℕ) → told ≢ front ++ (codes "\nend " ++ number))
+abbrev pub escaped : List ℕ → List ℕ
+escaped text = flat_map escaped_octet text
 
--- a code that means: the row is there already, or there is no store to copy (RFC 9110 section 15.5.10)
-abbrev pub is_conflict : List ℕ → Bool
-is_conflict code =
-    bytes_eq code (codes "3") || (bytes_eq code (codes "taken") || bytes_eq code (codes "no store"))
+-- a refusal says why by a word
+abbrev pub refused_reply : Status → List ℕ → Reply
+refused_reply status word = plain status kind.Json (codes "{\"refused\":\"" ++ escaped word ++ codes "\"}")
 
--- a code that means: there is no room (RFC 4918 section 11.5)
-abbrev pub is_full : List ℕ → Bool
-is_full code = bytes_eq code (codes "4") || bytes_eq code (codes "full")
+-- a word that no search takes
+abbrev pub misspelled_reply : List ℕ → Reply
+misspelled_reply word = refused_reply status.BadRequest (codes "keyword " ++ word)
 
--- a code that means: there is no such row, or no such institution (RFC 9110 section 15.5.5)
-abbrev pub is_missing : List ℕ → Bool
-is_missing code = bytes_eq code (codes "5") || bytes_eq code (codes "6")
+-- what the server answers to no such request
+abbrev pub server_reply : Reply
+server_reply = refused_reply status.ServerError (codes "server")
 
--- a code that means: the request is bad (RFC 9110 section 15.5.1). The status of a search that failed has
--- four digits (PS3.4 section C.4.1.1.4).
-abbrev pub is_bad : List ℕ → Bool
-is_bad code = bytes_eq code (codes "1") || (bytes_eq code (codes "2")
-    || (bytes_eq code (codes "request") || (starts_with ◌==◌ code (codes "keyword ") || (length code == 4))))
-
--- the status of a code by which the console refuses an order or a search
-abbrev pub code_status : List ℕ → Status
-code_status code = if is_conflict code then status.Conflict
-    else if is_full code then status.Full
-    else if is_missing code then status.NotFound
-    else if bytes_eq code (codes "A700") then status.TooLarge
-    else if bytes_eq code (codes "memory") then status.Unavailable
-    else if is_bad code then status.BadRequest
+-- The status of an order's refusal: it is bad (RFC 9110 section 15.5.1), its row is there (section 15.5.10), there is
+-- no room (RFC 4918 section 11.5), or there is no such row or institution (RFC 9110 section 15.5.5).
+abbrev pub order_status : ℕ → Status
+order_status number = if number == 1 || number == 2 then status.BadRequest
+    else if number == 3 then status.Conflict
+    else if number == 4 then status.Full
+    else if number == 5 || number == 6 then status.NotFound
     else status.ServerError
 
--- the console refuses for no code that it tells
-abbrev pub HasNoCode : List ℕ → Type 0
-HasNoCode told = (IsUtf8 told → ⊥)
-    ⊎ ((code : List ℕ) → told ≢ codes "refused " ++ (code ++ codes "\n"))
+-- the status of a search that is refused: it finds too much, or its keys are bad (PS3.4 section C.4.1.1.4)
+abbrev pub search_status : ℕ → Status
+search_status number = if number == 0xA700 then status.TooLarge else status.BadRequest
 
--- the code behind `refused`, `request` of a bad line, and else `server`
-abbrev pub IsCode : List ℕ → List ℕ → Type 0
-IsCode told code = (told ≡ codes "refused " ++ (code ++ codes "\n"))
-    ⊎ (((told ≡ codes "bad line\n") × (code ≡ codes "request"))
-    ⊎ (HasNoCode told × (told ≢ codes "bad line\n") × (code ≡ codes "server")))
+-- the status of a copy that is refused
+abbrev pub copy_status : Uncopied → Status
+copy_status uncopied.Taken = status.Conflict
+copy_status uncopied.NoStore = status.Conflict
+copy_status uncopied.Full = status.Full
+copy_status uncopied.NoMemory = status.Unavailable
+copy_status uncopied.Failed = status.ServerError
 
--- the response where the console told no answer has the status of its code
-abbrev pub IsRefusedReply : List ℕ → Reply → Type 0
-IsRefusedReply told reply =
-    (code : List ℕ) × IsCode told code × (reply.status ≡ code_status code)
+abbrev pub cause_status : Cause → Status
+cause_status (cause.Order number) = order_status number
+cause_status (cause.Search number) = search_status number
+cause_status cause.Institution = status.NotFound
+cause_status (cause.Copy refusal) = copy_status refusal
 
--- no answer is found
-abbrev pub is_empty_answer : List ℕ → Bool
-is_empty_answer told = bytes_eq told (codes "end 0\n")
+abbrev pub cause_reply : Cause → Reply
+cause_reply why = refused_reply (cause_status why) (cause_text why)
 
--- the response where no answer is found: no content, or an empty array
-abbrev pub IsEmptyReply : Bool → Reply → Type 0
-IsEmptyReply true reply =
-    (reply.status ≡ status.Done) × (reply.kind ≡ kind.DicomJson) × (reply.body ≡ codes "[]")
-IsEmptyReply false reply = (reply.status ≡ status.NoContent) × (reply.body ≡ [])
+-- ---- searches
 
--- The response to a search: the array of the answers, in their order, where there are some; no content, or an
--- empty array, where none is found; and else the status of the refusal (PS3.18 section 10.6.3).
-abbrev pub IsAnswersReply : Wish → List ℕ → Reply → Type 0
-IsAnswersReply wish told reply =
-    (IsTrue (is_empty_answer told) × IsEmptyReply wish.wants_array reply × (reply.is_literal ≡ wish.is_fuzzy))
-    ⊎ (((front : List ℕ) × SplitsAnswers told front × (reply.status ≡ status.Done)
-    × (reply.kind ≡ kind.DicomJson) × (reply.body ≡ codes "[" ++ map comma_for front ++ codes "]")
-    × (reply.is_literal ≡ wish.is_fuzzy))
-    ⊎ ((is_empty_answer told ≡ false) × HasNoAnswers told × IsRefusedReply told reply))
+abbrev pub json_text : ElementList → List ℕ
+json_text answer = print (json_tokens answer)
 
--- the status of an order that is done (RFC 9110 sections 15.3.1, 15.3.2 and 15.3.5)
-abbrev pub done_status : Form → Status
-done_status form.Scheduled = status.Created
-done_status form.Withdrawn = status.NoContent
-done_status other = status.Done
+abbrev pub behind_comma : ElementList → List ℕ
+behind_comma answer = 44 ∷ json_text answer
 
--- The response to an order: done, without content, or the status of the refusal
-abbrev pub IsOrderReply : Form → List ℕ → Reply → Type 0
-IsOrderReply form told reply =
-    (IsTrue (is_done told) × (reply.status ≡ done_status form) × (reply.body ≡ []))
-    ⊎ ((is_done told ≡ false) × IsRefusedReply told reply)
+-- the array of the answers, in their order (PS3.18 section F.2.1)
+abbrev pub array_text : List ElementList → List ℕ
+array_text [] = codes "[]"
+array_text (answer ∷ answers) = codes "[" ++ json_text answer ++ flat_map behind_comma answers ++ codes "]"
 
--- a number in decimal digits
-abbrev pub IsNumber : List ℕ → Type 0
-IsNumber text = (text ≢ []) × IsTrue (list_all is_ascii_digit text)
+abbrev pub array_reply : Bool → List ElementList → Reply
+array_reply is_literal answers =
+    record { status = status.Done; kind = kind.DicomJson; body = array_text answers; is_literal = is_literal }
 
--- a word, a number, a space and the rest
-abbrev pub IsNumberBehind : List ℕ → List ℕ → List ℕ → List ℕ → Type 0
-IsNumberBehind word number rest text =
-    (text ≡ word ++ (number ++ (codes " " ++ rest))) × IsNumber number
+-- The response to a search: the array of the answers. Where there is none, it is without content, or an empty array
+-- if that is wanted (PS3.18 section 10.6.3). It says where matching was to be fuzzy and was not.
+abbrev pub found_reply : Wish → List ElementList → Reply
+found_reply wish [] = if wish.wants_array then array_reply wish.is_fuzzy []
+    else record { status = status.NoContent; kind = kind.DicomJson; body = []; is_literal = wish.is_fuzzy }
+found_reply wish (answer ∷ answers) = array_reply wish.is_fuzzy (answer ∷ answers)
 
--- what the line of a report tells behind its name
-pub record AreCounts (text : List ℕ) (counts : Counts) : Type 0 where
-  pub line : text ≡ codes "studies " ++ (counts.studies.now ++ (codes " "
-      ++ (codes "series " ++ (counts.series.now ++ (codes " "
-      ++ (codes "images " ++ (counts.images.now ++ (codes " "
-      ++ (codes "entries " ++ (counts.entries.now ++ (codes " "
-      ++ (codes "steps " ++ counts.steps.now))))))))))))
-  pub studies : IsNumber counts.studies.now
-  pub series : IsNumber counts.series.now
-  pub images : IsNumber counts.images.now
-  pub entries : IsNumber counts.entries.now
-  pub steps : IsNumber counts.steps.now
-
--- what a report tells of a name, in a line that begins with it and a space
-abbrev pub IsOwnLine : List ℕ → List ℕ → List ℕ → Type 0
-IsOwnLine told name rest = IsAmong (name ++ (codes " " ++ rest)) (lines told)
+-- ---- counts
 
 abbrev pub limit_text : ℕ → List ℕ
 limit_text limit = LIMIT.now ++ decimal limit
 
 abbrev pub study_counts_text : Counts → Institution → List ℕ
 study_counts_text counts institution =
-    STUDIES.now ++ counts.studies.now ++ limit_text institution.studies
-    ++ SERIES.now ++ counts.series.now
-    ++ IMAGES.now ++ counts.images.now ++ limit_text institution.images
+    STUDIES.now ++ decimal counts.studies ++ limit_text institution.studies
+    ++ SERIES.now ++ decimal counts.series
+    ++ IMAGES.now ++ decimal counts.images ++ limit_text institution.images
 
 abbrev pub step_counts_text : Counts → Institution → List ℕ
 step_counts_text counts institution =
-    ENTRIES.now ++ counts.entries.now ++ limit_text institution.entries
-    ++ STEPS.now ++ counts.steps.now ++ limit_text institution.steps ++ CLOSE.now
+    ENTRIES.now ++ decimal counts.entries ++ limit_text institution.entries
+    ++ STEPS.now ++ decimal counts.steps ++ limit_text institution.steps ++ CLOSE.now
 
 -- the counts of an institution beside its limits
 abbrev pub counts_text : Counts → Institution → List ℕ
 counts_text counts institution =
     study_counts_text counts institution ++ step_counts_text counts institution
 
--- The response with what an institution keeps: the counts of its own line beside its own limits, and
--- else the status of the refusal. Nothing of another line enters it.
-abbrev pub IsCountsReply : List ℕ → List ℕ → Reply → Type 0
-IsCountsReply name told reply =
-    ((line : List ℕ) × (counts : Counts) × (institution : Institution)
-    × IsOwnLine told name line × AreCounts line counts × (bytes_eq institution.name name ≡ true)
-    × (reply.status ≡ status.Done) × (reply.body ≡ counts_text counts institution))
-    ⊎ IsRefusedReply told reply
+abbrev pub is_named_so : List ℕ → Institution → Bool
+is_named_so name institution = bytes_eq institution.name name
 
--- the response to a question by its form, its name and its wish
-abbrev pub IsReplyBy : Form → List ℕ → Wish → List ℕ → Reply → Type 0
-IsReplyBy form.Answers name wish told reply = IsAnswersReply wish told reply
-IsReplyBy form.Counts name wish told reply = IsCountsReply name told reply
-IsReplyBy form.Scheduled name wish told reply = IsOrderReply form.Scheduled told reply
-IsReplyBy form.Withdrawn name wish told reply = IsOrderReply form.Withdrawn told reply
-IsReplyBy form.BackedUp name wish told reply = IsOrderReply form.BackedUp told reply
-IsReplyBy form.Metrics name wish told reply = Unit {0}
+abbrev pub is_counted_of : List ℕ → Counted → Bool
+is_counted_of name counted = bytes_eq counted.institution name
 
-abbrev pub IsReplyTo : Question → List ℕ → Reply → Type 0
-IsReplyTo question told reply = IsReplyBy question.form question.name question.wish told reply
+abbrev pub counted_reply : Option Counted → Option Institution → Reply
+counted_reply (Some counted) (Some institution) =
+    plain status.Done kind.Json (counts_text counted.counts institution)
+counted_reply counted institution = server_reply
 
--- the octets of a response of which this holds, as it is framed
-abbrev pub IsResponse : (Reply → Type 0) → Framing → List ℕ → Type 0
-IsResponse Holds framing octets =
-    (reply : Reply) × Holds reply × (octets ≡ response_text reply framing)
+-- The response with what an institution keeps: its own counts beside its own limits.
+abbrev pub counts_reply : List ℕ → List Counted → List Institution → Reply
+counts_reply name counted institutions =
+    counted_reply (find (is_counted_of name) counted) (find (is_named_so name) institutions)
+
+-- ---- responses
+
+-- an order that is done (RFC 9110 sections 15.3.1, 15.3.2 and 15.3.5)
+abbrev pub done_reply : Request → Reply
+done_reply (ask.Schedule institution octets) = plain status.Created kind.Json []
+done_reply (ask.Withdraw institution id) = plain status.NoContent kind.Json []
+done_reply (ask.Backup path) = plain status.Done kind.Json []
+done_reply request = server_reply
+
+-- the text of the metrics is not said
+abbrev pub IsMetricsReply : Reply → Type 0
+IsMetricsReply reply =
+    (reply.status ≡ status.Done) × (reply.kind ≡ kind.Metrics) × (reply.is_literal ≡ false)
+
+-- The response to what is asked, by what was answered. The server answers to no request what is not of its kind.
+abbrev pub IsReplyBy : Request → Wish → Response → List Institution → Reply → Type 0
+IsReplyBy request wish (told.Refused why) institutions reply = reply ≡ cause_reply why
+IsReplyBy request wish told.Done institutions reply = reply ≡ done_reply request
+IsReplyBy (ask.Search search) wish (told.Found answers) institutions reply = reply ≡ found_reply wish answers
+IsReplyBy (ask.Counts name) wish (told.Counted counted) institutions reply =
+    reply ≡ counts_reply name counted institutions
+IsReplyBy ask.Report wish (told.Counted counted) institutions reply = IsMetricsReply reply
+IsReplyBy request wish response institutions reply = reply ≡ server_reply
+
+abbrev pub IsReplyTo : Question → Response → List Institution → Reply → Type 0
+IsReplyTo question response institutions reply =
+    IsReplyBy question.asked question.wish response institutions reply
+
+-- a response of which this holds is written, as it is framed
+abbrev pub IsResponse : (Reply → Type 0) → Framing → Written → Type 0
+IsResponse Holds framing written = (reply : Reply) × Holds reply × (written.status ≡ reply.status)
+    × (written.octets.items ≡ response_text reply framing)
+
+-- this response is
+abbrev pub IsWritten : Reply → Framing → Written → Type 0
+IsWritten reply framing written = (written.status ≡ reply.status)
+    × (written.octets.items ≡ response_text reply framing)
+
+-- the response to a request that the front refuses
+abbrev pub refusal_reply : Refusal → Reply
+refusal_reply refusal = refused_reply (refusal_status refusal) (refusal_word refusal)
 
 -- a document of the page for people
-abbrev pub IsDocument : Document → Reply → Type 0
-IsDocument document.Page reply = (reply.status ≡ status.Done) × (reply.kind ≡ kind.Page) × (reply.body ≡ INDEX.now)
-IsDocument document.Style reply = (reply.status ≡ status.Done) × (reply.kind ≡ kind.Style) × (reply.body ≡ STYLE.now)
-IsDocument document.Script reply = (reply.status ≡ status.Done) × (reply.kind ≡ kind.Script) × (reply.body ≡ SCRIPT.now)
+abbrev pub document_reply : Document → Reply
+document_reply document.Page = plain status.Done kind.Page INDEX.now
+document_reply document.Style = plain status.Done kind.Style STYLE.now
+document_reply document.Script = plain status.Done kind.Script SCRIPT.now
 
 -- the front is there
-abbrev pub IsHealthReply : Reply → Type 0
-IsHealthReply reply = (reply.status ≡ status.Done) × (reply.kind ≡ kind.Text) × (reply.body ≡ codes "ok\n")
+abbrev pub health_reply : Reply
+health_reply = plain status.Done kind.Text (codes "ok\n")

@@ -1,13 +1,20 @@
--- What requests ask of the console.
-use Rattle.std.specs.Prelude.{◌≡◌, ◌⊎◌, ◌==◌, ℕ, ◌++◌, ◌&&◌, ◌||◌, not, nat_le, Bool, true, false, IsTrue, if◌then◌else◌, List, [], ◌∷◌, length, codes, Option, Some, is_some, option_copied}
-use Rattle.std.specs.List.{list_all, list_any, flat_map, slice_split, starts_with}
+-- What requests of HTTP ask of the server.
+use Rattle.std.specs.Prelude.{◌≡◌, ◌⊎◌, ◌==◌, ℕ, ◌++◌, ◌&&◌, ◌||◌, not, nat_le, Bool, true, false, IsTrue, List, [], ◌∷◌, length, filter, codes, string_bytes, Option, Some, is_some, option_copied}
+use Rattle.std.specs.List.{list_all, list_any, slice_split, starts_with}
 use Rattle.std.specs.Str.{bytes_eq}
-use Rattle.hex.specs.Hex.{encode_lower}
 use Rattle.percent_encoding.specs.Percent.{percent_decode}
-use Rattle.dq_list.specs.Among.{IsAmong}
+use Rattle.dq_vr.specs.declared.Tag.{Tag}
+use Rattle.dq_vr.specs.declared.tags.TheConstants.{STUDY_INSTANCE_UID, SERIES_INSTANCE_UID}
+use Rattle.dq_request.specs.declared.request.Request.{Request}
+use Rattle.dq_request.specs.declared.request.Request.TheVariants as ask
+use Rattle.dq_request.specs.declared.search.Key.{Key}
+use Rattle.dq_request.specs.declared.search.Search.{Search}
+use Rattle.dq_request.specs.declared.search.Subject.{Subject}
+use Rattle.dq_request.specs.declared.search.Subject.TheVariants as subject
+use Rattle.dq_request.specs.Searches.{TakesWords, StopsAt}
 use Rattle.dq_web.specs.declared.cutting.Fields.{Fields}
 use Rattle.dq_web.specs.declared.cutting.Head.{Head}
-use Rattle.dq_web.specs.declared.cutting.Request.{Request}
+use Rattle.dq_web.specs.declared.cutting.HttpRequest.{HttpRequest}
 use Rattle.dq_web.specs.declared.guard.Guard.{Guard}
 use Rattle.dq_web.specs.declared.places.Place.{Place}
 use Rattle.dq_web.specs.declared.places.Place.TheVariants.{Page, Style, Script, Health, Metrics, Backup, Counts, Studies, Series, Images, Unsearched, Worklist, Entry, Steps}
@@ -16,12 +23,12 @@ use Rattle.dq_web.specs.declared.asking.Asked.{Asked}
 use Rattle.dq_web.specs.declared.asking.Asked.TheVariants as asked
 use Rattle.dq_web.specs.declared.asking.Document.{Document}
 use Rattle.dq_web.specs.declared.asking.Document.TheVariants as document
-use Rattle.dq_web.specs.declared.asking.Form.{Form}
-use Rattle.dq_web.specs.declared.asking.Form.TheVariants as form
 use Rattle.dq_web.specs.declared.asking.Method.{Method}
 use Rattle.dq_web.specs.declared.asking.Method.TheVariants.{Get, Post, Delete, Other}
 use Rattle.dq_web.specs.declared.asking.Method.TheVariants as method
 use Rattle.dq_web.specs.declared.asking.Question.{Question}
+use Rattle.dq_web.specs.declared.asking.Wanted.{Wanted}
+use Rattle.dq_web.specs.declared.asking.Wanted.TheVariants as wanted
 use Rattle.dq_web.specs.declared.asking.Wish.{Wish}
 use Rattle.dq_web.specs.Guards.{IsAdmitted, IsOpened}
 use Rattle.dq_web.specs.Places.{IsPath, beneath}
@@ -30,7 +37,7 @@ use Rattle.dq_web.specs.Places.{IsPath, beneath}
 abbrev pub is_visible : ℕ → Bool
 is_visible octet = nat_le 0x21 octet && nat_le octet 0x7E
 
--- no control: a line of the console has none
+-- no control character
 abbrev pub is_printable : ℕ → Bool
 is_printable octet = nat_le 0x20 octet && not (octet == 0x7F)
 
@@ -64,75 +71,130 @@ owner_of (Entry name id) = name.now
 owner_of (Steps name) = name.now
 owner_of place = codes "*"
 
--- a part of a query that says nothing to the console (PS3.18 section 8.3.4): all attributes are
--- answered, and no matching is fuzzy
+-- ---- searches
+
+-- a part of a query that says nothing here (PS3.18 section 8.3.4): all attributes are answered, and no matching
+-- is fuzzy
 abbrev pub is_left_out : List ℕ → Bool
 is_left_out part = (length part == 0) || starts_with ◌==◌ part (codes "includefield=")
     || starts_with ◌==◌ part (codes "fuzzymatching=")
-
-abbrev pub is_limit : List ℕ → Bool
-is_limit part = starts_with ◌==◌ part (codes "limit=")
 
 -- the parts of a query
 abbrev pub parts_of : List ℕ → List (List ℕ)
 parts_of query = slice_split (λ octet. octet == 38) query
 
-abbrev pub part_word : List ℕ → List ℕ
-part_word part = if is_left_out part then [] else codes " " ++ part
+abbrev pub is_said : List ℕ → Bool
+is_said part = not (is_left_out part)
 
--- each part as it came, behind a space, and a limit of 100 where none is given
-abbrev pub query_words : List ℕ → List ℕ
-query_words query = flat_map part_word (parts_of query)
-    ++ (if list_any is_limit (parts_of query) then [] else codes " limit=100")
+-- those of some parts that are words of a search
+abbrev pub words_among : List (List ℕ) → List (List ℕ)
+words_among parts = filter is_said parts
 
--- octets in hexadecimal, and a dash for none
-abbrev pub digits_of : List ℕ → List ℕ
-digits_of [] = codes "-"
-digits_of (octet ∷ octets) = encode_lower (octet ∷ octets)
+abbrev pub words_in : List ℕ → List (List ℕ)
+words_in query = words_among (parts_of query)
 
--- a question of this line and form, about this name
-abbrev pub Says : List ℕ → Form → List ℕ → Question → Type 0
-Says line form name question =
-    (question.line ≡ line) × (question.form ≡ form) × (question.name ≡ name)
+-- a UID that stands in a path (PS3.18 section 10.6.1.1), as a key
+abbrev pub uid_key : Tag → List ℕ → Key
+uid_key tag text = record { tag = tag; value = percent_decode text }
 
--- what GET asks of a place (PS3.18 section 10.6)
-abbrev pub Looking : Place → List ℕ → Question → Type 0
-Looking (Studies name) query question =
-    Says (codes "studies " ++ name.now ++ query_words query) form.Answers name.now question
-Looking (Series name study) query question =
-    Says (codes "series " ++ name.now ++ codes " StudyInstanceUID=" ++ study.now ++ query_words query)
-    form.Answers name.now question
-Looking (Images name study series) query question =
-    Says (codes "images " ++ name.now ++ codes " StudyInstanceUID=" ++ study.now
-    ++ codes " SeriesInstanceUID=" ++ series.now ++ query_words query) form.Answers name.now question
-Looking (Worklist name) query question =
-    Says (codes "worklist " ++ name.now ++ query_words query) form.Answers name.now question
-Looking (Steps name) query question =
-    Says (codes "steps " ++ name.now ++ query_words query) form.Answers name.now question
-Looking (Counts name) query question = Says (codes "report") form.Counts name.now question
-Looking Metrics query question = Says (codes "report") form.Metrics (codes "*") question
-Looking place query question = ⊥
+-- a search of what an institution keeps, a hundred at a time
+abbrev pub hundred_of : Subject → List ℕ → List Key → Search
+hundred_of subject name keys =
+    record { subject = subject; institution = name; keys = keys; page = record { offset = 0; limit = 100 } }
+
+-- the search of the series of a study
+abbrev pub series_of : List ℕ → List ℕ → Search
+series_of name study = hundred_of subject.Series name (uid_key STUDY_INSTANCE_UID study ∷ [])
+
+-- the search of the images of a series
+abbrev pub images_of : List ℕ → List ℕ → List ℕ → Search
+images_of name study series = hundred_of subject.Images name
+    (uid_key STUDY_INSTANCE_UID study ∷ (uid_key SERIES_INSTANCE_UID series ∷ []))
+
+-- The search at a path, before its query says more (PS3.18 section 10.6.1). The UIDs of the path are its first keys,
+-- and of an attribute's keys the first counts.
+abbrev pub IsSearchAt : Place → Search → Type 0
+IsSearchAt (Studies name) search = search ≡ hundred_of subject.Studies name.now []
+IsSearchAt (Series name study) search = search ≡ series_of name.now study.now
+IsSearchAt (Images name study series) search = search ≡ images_of name.now study.now series.now
+IsSearchAt (Worklist name) search = search ≡ hundred_of subject.Worklist name.now []
+IsSearchAt (Steps name) search = search ≡ hundred_of subject.Steps name.now []
+IsSearchAt place search = ⊥
+
+-- ---- requests
+
+-- GET asks for the search of the path and the query
+abbrev pub Searching : Place → List ℕ → Request → Type 0
+Searching place query (ask.Search search) =
+    (start : Search) × IsSearchAt place start × TakesWords (words_in query) start search
+Searching place query request = ⊥
+
+-- what GET asks of a place
+abbrev pub Looking : Place → List ℕ → Request → Type 0
+Looking (Counts name) query request = request ≡ ask.Counts name.now
+Looking Metrics query request = request ≡ ask.Report
+Looking place query request = Searching place query request
+
+-- a path of a file, without control characters
+abbrev pub IsBackup : List ℕ → Request → Type 0
+IsBackup body (ask.Backup path) = (string_bytes path ≡ body) × IsTrue (list_all is_printable body)
+IsBackup body request = ⊥
 
 -- what POST asks of a place
-abbrev pub Posting : Place → List ℕ → Question → Type 0
-Posting (Worklist name) body question =
-    Says (codes "schedule " ++ name.now ++ codes " " ++ digits_of body) form.Scheduled name.now question
-Posting Backup body question = Says (codes "backup " ++ body) form.BackedUp (codes "*") question
-Posting place body question = ⊥
+abbrev pub Posting : Place → List ℕ → Request → Type 0
+Posting (Worklist name) body request = request ≡ ask.Schedule name.now body
+Posting Backup body request = IsBackup body request
+Posting place body request = ⊥
 
 -- what DELETE asks of a place
-abbrev pub Deleting : Place → Question → Type 0
-Deleting (Entry name id) question =
-    Says (codes "withdraw " ++ name.now ++ codes " " ++ digits_of (percent_decode id.now))
-    form.Withdrawn name.now question
-Deleting place question = ⊥
+abbrev pub Deleting : Place → Request → Type 0
+Deleting (Entry name id) request = request ≡ ask.Withdraw name.now (percent_decode id.now)
+Deleting place request = ⊥
 
-abbrev pub Asks : Method → Place → List ℕ → List ℕ → Question → Type 0
-Asks Get place query body question = Looking place query question
-Asks method.Head place query body question = Looking place query question
-Asks Post place query body question = Posting place body question
-Asks Delete place query body question = Deleting place question
-Asks Other place query body question = ⊥
+abbrev pub Asks : Method → Place → List ℕ → List ℕ → Request → Type 0
+Asks Get place query body request = Looking place query request
+Asks method.Head place query body request = Looking place query request
+Asks Post place query body request = Posting place body request
+Asks Delete place query body request = Deleting place request
+Asks Other place query body request = ⊥
+
+-- what a search found is answered as JSON, which is accepted (RFC 9110 section 12.5.1)
+abbrev pub IsAccepted : Request → Fields → Type 0
+IsAccepted (ask.Search search) fields = IsTrue fields.accepts_json
+IsAccepted request fields = Unit {0}
+
+-- this part of a query is the first that is no word of the search which the path and the parts before it say
+abbrev pub IsMisspelledAt : Place → List ℕ → List ℕ → Type 0
+IsMisspelledAt place query part =
+    (start : Search) × IsSearchAt place start × StopsAt part (words_in query) start
+
+-- what GET comes to
+abbrev pub IsLooked : Place → Fields → List ℕ → Wanted → Type 0
+IsLooked place fields query (wanted.Request request) = Looking place query request × IsAccepted request fields
+IsLooked place fields query (wanted.Misspelled part) = IsMisspelledAt place query (string_bytes part)
+
+abbrev pub IsGet : Method → Type 0
+IsGet Get = Unit {0}
+IsGet method.Head = Unit {0}
+IsGet by = ⊥
+
+-- what a head and a body come to
+abbrev pub IsWanted : Aim → Fields → List ℕ → Wanted → Type 0
+IsWanted aim fields body (wanted.Request request) =
+    Asks aim.method aim.place aim.query.now body request × IsAccepted request fields
+IsWanted aim fields body (wanted.Misspelled part) =
+    IsGet aim.method × IsMisspelledAt aim.place aim.query.now (string_bytes part)
+
+-- whose key opens a request: that of the institution which it names, or the operator's
+abbrev pub owner_of_request : Request → List ℕ
+owner_of_request (ask.Search search) = search.institution
+owner_of_request (ask.Counts name) = name
+owner_of_request ask.Report = codes "*"
+owner_of_request (ask.Schedule institution octets) = institution
+owner_of_request (ask.Withdraw institution id) = institution
+owner_of_request (ask.Backup path) = codes "*"
+
+-- ---- who may ask
 
 abbrev pub has_no_slash : ℕ → Bool
 has_no_slash octet = not (octet == 47)
@@ -192,16 +254,23 @@ abbrev pub wish_of : Fields → List ℕ → Wish
 wish_of fields query =
     record { wants_array = fields.asks_dicom_json; is_fuzzy = list_any is_fuzzy (parts_of query) }
 
--- A request asks a question: it is let in, its key opens the name of the question, its path and method ask
--- it, its line has no control, and it accepts JSON where answers are asked for.
-pub record IsQuestion (guard : Guard) (request : Request) (question : Question) : Type 0 where
+-- A request of HTTP asks a question: it is let in, its key opens the place, its path, method, query and body say what
+-- is asked, and JSON is accepted where a search is.
+pub record IsQuestion (guard : Guard) (request : HttpRequest) (question : Question) : Type 0 where
   pub aim : Aim
   pub let_in : IsLetIn guard request.head aim
-  pub opened : IsOpened guard.keys question.name (option_copied request.head.fields.authorization)
-  pub asks : Asks aim.method aim.place aim.query.now request.body.now question
-  pub line : IsTrue (list_all is_printable question.line)
+  pub opened : IsOpened guard.keys (owner_of aim.place) (option_copied request.head.fields.authorization)
+  pub asks : Asks aim.method aim.place aim.query.now request.body.now question.asked
   pub wish : question.wish ≡ wish_of request.head.fields aim.query.now
-  pub accepted : question.form ≡ form.Answers → IsTrue request.head.fields.accepts_json
+  pub accepted : IsAccepted question.asked request.head.fields
+
+-- A part of the query is no word of the search that the path and the parts before say.
+pub record IsMisspelled (guard : Guard) (request : HttpRequest) (word : List ℕ) : Type 0 where
+  pub aim : Aim
+  pub let_in : IsLetIn guard request.head aim
+  pub opened : IsOpened guard.keys (owner_of aim.place) (option_copied request.head.fields.authorization)
+  pub by_get : IsGet aim.method
+  pub at : IsMisspelledAt aim.place aim.query.now word
 
 -- where a document of the page stands
 abbrev pub document_place : Document → Place
@@ -209,42 +278,51 @@ document_place document.Page = Page
 document_place document.Style = Style
 document_place document.Script = Script
 
--- what is done for a request
-abbrev pub IsAsked : Guard → Request → Asked → Type 0
+-- what is done for a request of HTTP
+abbrev pub IsAsked : Guard → HttpRequest → Asked → Type 0
 IsAsked guard request (asked.Question question) = IsQuestion guard request question
 IsAsked guard request (asked.Refused refusal) = Unit {0}
+IsAsked guard request (asked.Misspelled word) = IsMisspelled guard request (string_bytes word)
 IsAsked guard request (asked.Document document) =
     (aim : Aim) × IsLetIn guard request.head aim × (aim.place ≡ document_place document)
 IsAsked guard request asked.Health = (aim : Aim) × IsLetIn guard request.head aim × (aim.place ≡ Health)
 
--- the words of the console that change nothing
-abbrev pub look_words : List (List ℕ)
-look_words = codes "studies " ∷ (codes "series " ∷ (codes "images " ∷ (codes "worklist "
-    ∷ (codes "steps " ∷ (codes "report" ∷ [])))))
+-- ---- laws
 
--- the line asks for a look
-abbrev pub IsLook : List ℕ → Type 0
-IsLook line = (word : List ℕ) × (rest : List ℕ) × IsAmong word look_words × (line ≡ word ++ rest)
+-- it changes nothing
+abbrev pub IsLook : Request → Type 0
+IsLook (ask.Search search) = Unit {0}
+IsLook (ask.Counts name) = Unit {0}
+IsLook ask.Report = Unit {0}
+IsLook request = ⊥
 
--- a request of this method at this path
-abbrev pub IsCall : Request → List ℕ → List ℕ → Type 0
-IsCall request word path = (host : List ℕ) × (text : List ℕ) × (query : List ℕ)
+-- a request of HTTP has this path
+abbrev pub IsAtPath : HttpRequest → List ℕ → Type 0
+IsAtPath request path = (host : List ℕ) × (text : List ℕ) × (query : List ℕ)
     × IsTarget request.head.target.now (option_copied request.head.fields.host) host text
-    × IsPathAndQuery text path query × (request.head.method.now ≡ word)
+    × IsPathAndQuery text path query
 
--- POST of a body at the worklist of the question's institution, and the order to schedule it there
-abbrev pub IsScheduling : Request → Question → Type 0
-IsScheduling request question =
-    IsCall request (codes "POST") (codes "/" ++ beneath question.name (codes "worklist"))
-    × (question.line ≡ codes "schedule " ++ question.name ++ codes " " ++ digits_of request.body.now)
+-- a request of HTTP of this method at this path
+abbrev pub IsCall : HttpRequest → List ℕ → List ℕ → Type 0
+IsCall request word path = IsAtPath request path × (request.head.method.now ≡ word)
 
--- DELETE of an entry of that worklist, and the order to withdraw it there
-abbrev pub IsWithdrawing : Request → Question → Type 0
-IsWithdrawing request question = (id : List ℕ)
-    × IsCall request (codes "DELETE") (codes "/" ++ beneath question.name (codes "worklist/" ++ id))
-    × (question.line ≡ codes "withdraw " ++ question.name ++ codes " " ++ digits_of (percent_decode id))
+-- POST of a body at the worklist of an institution, which is to be scheduled there
+abbrev pub IsScheduling : HttpRequest → List ℕ → List ℕ → Type 0
+IsScheduling request institution octets =
+    IsCall request (codes "POST") (codes "/" ++ beneath institution (codes "worklist"))
+    × (octets ≡ request.body.now)
 
--- POST of a path by the operator, and the order to copy all rows to it
-abbrev pub IsBackingUp : Request → Question → Type 0
-IsBackingUp request question = IsCall request (codes "POST") (codes "/backup")
-    × (question.name ≡ codes "*") × (question.line ≡ codes "backup " ++ request.body.now)
+-- DELETE of an entry of that worklist, which is to be taken away there
+abbrev pub IsWithdrawing : HttpRequest → List ℕ → List ℕ → Type 0
+IsWithdrawing request institution id = (text : List ℕ)
+    × IsCall request (codes "DELETE") (codes "/" ++ beneath institution (codes "worklist/" ++ text))
+    × (id ≡ percent_decode text)
+
+-- POST of a path, to which all rows are to be copied
+abbrev pub IsBackingUp : HttpRequest → List ℕ → Type 0
+IsBackingUp request path = IsCall request (codes "POST") (codes "/backup") × (path ≡ request.body.now)
+
+-- a path below an institution's name
+abbrev pub IsBelow : HttpRequest → List ℕ → Type 0
+IsBelow request institution =
+    (rest : List ℕ) × IsAtPath request (codes "/" ++ beneath institution rest)

@@ -10,7 +10,7 @@ use Rattle.dq_web.specs.declared.cutting.Cut.{Cut}
 use Rattle.dq_web.specs.declared.cutting.Cut.TheVariants.{Unfinished, Begun, Whole, Refused}
 use Rattle.dq_web.specs.declared.cutting.Fields.{Fields}
 use Rattle.dq_web.specs.declared.cutting.Head.{Head}
-use Rattle.dq_web.specs.declared.cutting.Request.{Request}
+use Rattle.dq_web.specs.declared.cutting.HttpRequest.{HttpRequest}
 use Rattle.dq_web.specs.declared.cutting.Test.{Test}
 use Rattle.dq_web.specs.declared.cutting.Test.TheVariants as test
 
@@ -106,7 +106,7 @@ pub record IsHead (octets : List ℕ) (head : Head) : Type 0 where
   pub bound : head.extent ≤ 16384
 
 -- a request stands at the front of octets: its head, and a body as long as that says, whose octets it takes
-pub record IsRequest (octets : List ℕ) (request : Request) : Type 0 where
+pub record IsRequest (octets : List ℕ) (request : HttpRequest) : Type 0 where
   pub head : IsHead octets request.head
   pub rest : List ℕ
   pub body : drop request.head.extent octets ≡ request.body.now ++ rest

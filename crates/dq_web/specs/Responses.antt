@@ -47,6 +47,40 @@ refusal_status refusal.Key = Unauthorized
 refusal_status refusal.Accept = NotAcceptable
 refusal_status refusal.Unsupported = NotImplemented
 
+-- the word for a refusal of the front
+abbrev pub refusal_word : Refusal → List ℕ
+refusal_word refusal.Request = codes "request"
+refusal_word refusal.Head = codes "head"
+refusal_word refusal.Length = codes "length"
+refusal_word refusal.Coding = codes "coding"
+refusal_word refusal.Host = codes "host"
+refusal_word refusal.Origin = codes "origin"
+refusal_word refusal.Path = codes "path"
+refusal_word (refusal.Method methods) = codes "method"
+refusal_word refusal.Key = codes "key"
+refusal_word refusal.Accept = codes "accept"
+refusal_word refusal.Unsupported = codes "unsupported"
+
+-- the status code alone
+abbrev pub status_code : Status → ℕ
+status_code Done = 200
+status_code Created = 201
+status_code NoContent = 204
+status_code BadRequest = 400
+status_code Unauthorized = 401
+status_code Forbidden = 403
+status_code NotFound = 404
+status_code (MethodNotAllowed methods) = 405
+status_code NotAcceptable = 406
+status_code Conflict = 409
+status_code TooLarge = 413
+status_code Misdirected = 421
+status_code HeadTooLarge = 431
+status_code ServerError = 500
+status_code NotImplemented = 501
+status_code Unavailable = 503
+status_code Full = 507
+
 abbrev pub content_type : Kind → List ℕ
 content_type kind.Page = codes "text/html; charset=utf-8"
 content_type kind.Style = codes "text/css; charset=utf-8"

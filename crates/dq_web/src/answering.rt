@@ -1,22 +1,20 @@
-//! Responses: what the console told, and what the front answers by itself.
-ghost use Rattle.std.specs.Prelude.{◌≡◌, ◌≢◌, ◌++◌, true, false, codes, map, IfOk, OnOk, IfSome, MatchOption, ℕ, List};
+//! Responses: what the server answered, and what the front answers by itself.
+ghost use Rattle.std.specs.Prelude.{◌≡◌, ◌++◌, [], flat_map, codes, find, option_copied, IfOk, OnOk};
 ghost use Rattle.std.specs.Str.{bytes_eq};
-ghost use Rattle.std.specs.Char.{is_ascii_digit};
-ghost use Rattle.std.specs.List.{list_all};
-ghost use Rattle.dq_web.specs.Responses.{refusal_status};
-ghost use Rattle.dq_web.specs.Answers.{comma_for, is_done, done_status, is_conflict, is_full, is_missing, is_bad, code_status, IsCode, IsRefusedReply, is_empty_answer, IsOrderReply, SplitsAnswers, HasNoAnswers, IsAnswersReply, IsNumber, AreCounts, IsNumberBehind, IsOwnLine, limit_text, study_counts_text, step_counts_text, counts_text, IsCountsReply, IsReplyTo, IsResponse, IsDocument, IsHealthReply, IsEmptyReply};
+ghost use Rattle.dq_web.specs.Answers.{plain, escaped_octet, escaped, refused_reply, misspelled_reply, server_reply, order_status, search_status, copy_status, cause_status, cause_reply, behind_comma, array_text, array_reply, found_reply, limit_text, study_counts_text, step_counts_text, counts_text, is_named_so, is_counted_of, counts_reply, done_reply, IsMetricsReply, IsReplyTo, IsResponse, IsWritten, refusal_reply, document_reply, health_reply};
 
-use crate::asking::{Document, Form, Question, Wish, begins};
+use crate::asking::{Document, Question, Wish};
 use crate::counters::Counters;
-use crate::keys::at_space;
 use crate::metrics::metrics_text;
 use crate::page::{INDEX, SCRIPT, STYLE};
-use crate::places::behind;
 use crate::refusal::Refusal;
-use crate::replies::{Framing, Kind, Reply, printed, put, put_number};
+use crate::replies::{Framing, Kind, Reply, Written, printed, put, put_number};
 use crate::status::Status;
 use dq_config::Institution;
+use dq_dataset::DataSet;
+use dq_json::json_of;
 use dq_list::Listed;
+use dq_request::{Cause, Counted, Counts, Request, Response, Uncopied};
 use std::alloc::{AllocError, Global};
 
 pub(crate) const STUDIES: &str = "{\"studies\":{\"kept\":";
@@ -34,8 +32,8 @@ pub(crate) const LIMIT: &str = ",\"limit\":";
 pub(crate) const CLOSE: &str = "}}";
 
 /// A response with a body.
-fn reply_of(status: Status, kind: Kind, body: Vec<u8>) -> Reply
-    ensures { result ≡ record { status = status; kind = kind; body = body.items; is_literal = false } }
+fn plain(status: Status, kind: Kind, body: Vec<u8>) -> Reply
+    ensures { result ≡ plain status kind body.items }
 {
     Reply {
         status,
@@ -45,333 +43,163 @@ fn reply_of(status: Status, kind: Kind, body: Vec<u8>) -> Reply
     }
 }
 
-/// Adds a text as one of JSON (RFC 8259 section 7). What is not ASCII becomes a question mark.
-fn put_escaped(body: &mut Vec<u8>, text: &str) -> Result<(), AllocError> {
+/// Adds an octet to a text of JSON (RFC 8259 section 7). What is not ASCII becomes a question mark.
+fn put_escaped_octet(body: &mut Vec<u8>, octet: u8) -> Result<(), AllocError>
+    ensures { OnOk result (body.new.items ≡ body.old.items ++ escaped_octet octet) }
+{
+    if octet == b'"' || octet == b'\\' {
+        body.push(b'\\')?;
+    }
+    body.push(if 0x20 <= octet && octet <= 0x7e {
+        octet
+    } else {
+        b'?'
+    })?;
+    Ok(())
+}
+
+/// Adds a text as one of JSON.
+fn put_escaped(body: &mut Vec<u8>, text: &str) -> Result<(), AllocError>
+    ensures { OnOk result (body.new.items ≡ body.old.items ++ escaped text.now) }
+{
     for octet in text.as_bytes() {
-        let octet = *octet;
-        if octet == b'"' || octet == b'\\' {
-            body.push(b'\\')?;
-        }
-        body.push(if 0x20 <= octet && octet <= 0x7e {
-            octet
-        } else {
-            b'?'
-        })?;
+        put_escaped_octet(body, *octet)?;
     }
     Ok(())
 }
 
-/// A refusal by its status, with a code that says why.
-fn refused_reply(alloc: Global, status: Status, code: &str) -> Result<Reply, AllocError>
-    ensures { IfOk result (λ reply. reply.status ≡ status) }
+/// A refusal by its status, with a word that says why.
+fn refused_reply(alloc: Global, status: Status, word: &str) -> Result<Reply, AllocError>
+    ensures { IfOk result (λ reply. reply ≡ refused_reply status word.now) }
 {
     let mut body = Vec::new(alloc);
     put(&mut body, "{\"refused\":\"")?;
-    put_escaped(&mut body, code)?;
+    put_escaped(&mut body, word)?;
     put(&mut body, "\"}")?;
-    Ok(reply_of(status, Kind::Json, body))
+    Ok(plain(status, Kind::Json, body))
 }
 
-/// What stands behind a word at the front of a text, and before a line feed at its end.
-fn between<'a>(text: &'a str, word: &str) -> Option<&'a str>
-    ensures { MatchOption result ((code : List ℕ) → text.now ≢ word.now ++ (code ++ codes "\n"))
-        (λ code. text.now ≡ word.now ++ (code.now ++ codes "\n")) }
+/// The response where a word is none of a search.
+fn misspelled_reply(alloc: Global, word: &str) -> Result<Reply, AllocError>
+    ensures { IfOk result (λ reply. reply ≡ misspelled_reply word.now) }
 {
-    match text.strip_prefix(word) {
-        Some(rest) => rest.strip_suffix("\n"),
-        None => None,
+    let mut why = String::from_str(alloc, "keyword ")?;
+    why.push_str(word)?;
+    refused_reply(alloc, Status::BadRequest, why.as_str())
+}
+
+/// The response where the server answered what is no answer to the request.
+fn server_reply(alloc: Global) -> Result<Reply, AllocError>
+    ensures { IfOk result (λ reply. reply ≡ server_reply) }
+{
+    refused_reply(alloc, Status::ServerError, "server")
+}
+
+/// The status of an order that is refused, by the number of its refusal.
+fn order_status(number: u16) -> Status
+    ensures { result ≡ order_status number }
+{
+    match number {
+        1 | 2 => Status::BadRequest,
+        3 => Status::Conflict,
+        4 => Status::Full,
+        5 | 6 => Status::NotFound,
+        _ => Status::ServerError,
     }
 }
 
-/// The code of what the console told: what stands behind `refused`, or why it told no answer.
-fn code_in(told: &[u8]) -> &str
-    ensures { IsCode told.now result.now }
+/// The status of a search that is refused, by that of its operation (PS3.4 section C.4.1.1.4).
+fn search_status(number: u16) -> Status
+    ensures { result ≡ search_status number }
 {
-    if told == b"bad line\n".as_slice() {
-        return "request";
-    }
-    let Ok(text) = str::from_utf8(told) else {
-        return "server";
-    };
-    match between(text, "refused ") {
-        Some(code) => code,
-        None => "server",
-    }
-}
-
-fn is_text(code: &str, text: &str) -> bool
-    ensures { result ≡ bytes_eq code.now text.now }
-{
-    code == text
-}
-
-/// Whether a code says that a row is there already, or that there is no store to copy.
-fn is_conflict(code: &str) -> bool
-    ensures { result ≡ is_conflict code.now }
-{
-    is_text(code, "3") || is_text(code, "taken") || is_text(code, "no store")
-}
-
-/// Whether a code says that there is no room.
-fn is_full(code: &str) -> bool
-    ensures { result ≡ is_full code.now }
-{
-    is_text(code, "4") || is_text(code, "full")
-}
-
-/// Whether a code says that there is no such row, or no such institution.
-fn is_missing(code: &str) -> bool
-    ensures { result ≡ is_missing code.now }
-{
-    is_text(code, "5") || is_text(code, "6")
-}
-
-/// Whether a code says that the request is bad.
-fn is_bad(code: &str) -> bool
-    ensures { result ≡ is_bad code.now }
-{
-    is_text(code, "1")
-        || is_text(code, "2")
-        || is_text(code, "request")
-        || begins(code, "keyword ")
-        || code.len() == 4
-}
-
-/// The status of a code.
-fn code_status(code: &str) -> Status
-    ensures { result ≡ code_status code.now }
-{
-    if is_conflict(code) {
-        Status::Conflict
-    } else if is_full(code) {
-        Status::Full
-    } else if is_missing(code) {
-        Status::NotFound
-    } else if is_text(code, "A700") {
+    if number == 0xa700 {
         Status::TooLarge
-    } else if is_text(code, "memory") {
-        Status::Unavailable
-    } else if is_bad(code) {
+    } else {
         Status::BadRequest
-    } else {
-        Status::ServerError
     }
 }
 
-/// The response where the console did not do what it was asked.
-fn unanswered(alloc: Global, told: &[u8]) -> Result<Reply, AllocError>
-    ensures { IfOk result (IsRefusedReply told.now) }
+/// The status of a copy that is refused.
+fn copy_status(refusal: Uncopied) -> Status
+    ensures { result ≡ copy_status refusal }
 {
-    let code = code_in(told);
-    refused_reply(alloc, code_status(code), code)
-}
-
-/// The status of an order that is done.
-fn done_status(form: Form) -> Status
-    ensures { result ≡ done_status form }
-{
-    match form {
-        Form::Scheduled => Status::Created,
-        Form::Withdrawn => Status::NoContent,
-        _ => Status::Done,
+    match refusal {
+        Uncopied::Taken | Uncopied::NoStore => Status::Conflict,
+        Uncopied::Full => Status::Full,
+        Uncopied::NoMemory => Status::Unavailable,
+        Uncopied::Failed => Status::ServerError,
     }
 }
 
-fn is_done(told: &[u8]) -> bool
-    ensures { result ≡ is_done told.now }
+/// The status of what is not done.
+fn cause_status(cause: Cause) -> Status
+    ensures { result ≡ cause_status cause }
 {
-    told == b"done\n".as_slice()
-}
-
-/// The response to an order.
-fn order_reply(alloc: Global, form: Form, told: &[u8]) -> Result<Reply, AllocError>
-    ensures { IfOk result (IsOrderReply form told.now) }
-{
-    if is_done(told) {
-        Ok(reply_of(done_status(form), Kind::Json, Vec::new(alloc)))
-    } else {
-        unanswered(alloc, told)
+    match cause {
+        Cause::Order(number) => order_status(number),
+        Cause::Search(number) => search_status(number),
+        Cause::Institution => Status::NotFound,
+        Cause::Copy(refusal) => copy_status(refusal),
     }
 }
 
-fn comma_for(octet: u8) -> u8
-    ensures { result ≡ comma_for octet }
+/// The response where what is asked is not done.
+fn cause_reply(alloc: Global, cause: Cause) -> Result<Reply, AllocError>
+    ensures { IfOk result (λ reply. reply ≡ cause_reply cause) }
 {
-    if octet == b'\n' { b',' } else { octet }
+    let word = cause.text(alloc)?;
+    refused_reply(alloc, cause_status(cause), word.as_str())
 }
 
-/// The lines of answers, with a comma in place of each line feed.
-fn commaed(alloc: Global, front: &[u8]) -> Result<Vec<u8>, AllocError>
-    ensures { IfOk result (λ items. items.items ≡ map comma_for front.now) }
+/// Adds the JSON of each answer, behind a comma.
+fn put_others(alloc: Global, body: &mut Vec<u8>, answers: &[DataSet]) -> Result<(), AllocError>
+    ensures { OnOk result (body.new.items ≡ body.old.items ++ flat_map behind_comma answers.now) }
 {
-    front.iter().map(|octet| comma_for(*octet)).collect(alloc)
+    for answer in answers {
+        body.push(b',')?;
+        body.extend_from_slice(json_of(alloc, answer)?.as_slice())?;
+    }
+    Ok(())
 }
 
 /// The array of the answers of a search.
-fn array_of(alloc: Global, front: &[u8]) -> Result<Vec<u8>, AllocError>
-    ensures { IfOk result (λ body. body.items ≡ codes "[" ++ map comma_for front.now ++ codes "]") }
+fn array_of(alloc: Global, answers: &[DataSet]) -> Result<Vec<u8>, AllocError>
+    ensures { IfOk result (λ body. body.items ≡ array_text answers.now) }
 {
     let mut body = Vec::from_slice(alloc, b"[")?;
-    body.extend_from_slice(commaed(alloc, front)?.as_slice())?;
+    if let Some((first, others)) = answers.split_first() {
+        body.extend_from_slice(json_of(alloc, first)?.as_slice())?;
+        put_others(alloc, &mut body, others)?;
+    }
     body.push(b']')?;
     Ok(body)
 }
 
-/// The answers of a search, before their number.
-fn answers_in(told: &[u8]) -> Option<&[u8]>
-    ensures { MatchOption result (HasNoAnswers told.now) (λ front. SplitsAnswers told.now front.now) }
+/// The response with the array of the answers, and that matching was not fuzzy where that was wanted.
+fn array_reply(alloc: Global, is_literal: bool, answers: &[DataSet]) -> Result<Reply, AllocError>
+    ensures { IfOk result (λ reply. reply ≡ array_reply is_literal answers.now) }
 {
-    let Ok(text) = str::from_utf8(told) else {
-        return None;
-    };
-    match text.split_once("\nend ") {
-        Some((front, _)) => Some(front.as_bytes()),
-        None => None,
-    }
-}
-
-fn is_empty_answer(told: &[u8]) -> bool
-    ensures { result ≡ is_empty_answer told.now }
-{
-    told == b"end 0\n".as_slice()
-}
-
-/// The array of the answers that a search found, and that matching was not fuzzy where that was wanted.
-fn found_reply(body: Vec<u8>, wish: Wish) -> Reply
-    ensures { result ≡ record {
-      status = Status.Done;
-      kind = Kind.DicomJson;
-      body = body.items;
-      is_literal = wish.is_fuzzy;
-    } }
-{
-    Reply {
+    Ok(Reply {
         status: Status::Done,
         kind: Kind::DicomJson,
-        body: Listed::from_inner(body),
-        is_literal: wish.is_fuzzy,
-    }
-}
-
-/// The response where no answer is found.
-fn empty_reply(alloc: Global, wish: Wish) -> Result<Reply, AllocError>
-    ensures { IfOk result (λ reply. IsEmptyReply wish.wants_array reply
-        × (reply.is_literal ≡ wish.is_fuzzy)) }
-{
-    if wish.wants_array {
-        return Ok(found_reply(Vec::from_slice(alloc, b"[]")?, wish));
-    }
-    let mut reply = reply_of(Status::NoContent, Kind::DicomJson, Vec::new(alloc));
-    reply.is_literal = wish.is_fuzzy;
-    Ok(reply)
+        body: Listed::from_inner(array_of(alloc, answers)?),
+        is_literal,
+    })
 }
 
 /// The response to a search.
-fn answers_reply(alloc: Global, wish: Wish, told: &[u8]) -> Result<Reply, AllocError>
-    ensures { IfOk result (IsAnswersReply wish told.now) }
+fn found_reply(alloc: Global, wish: Wish, answers: &[DataSet]) -> Result<Reply, AllocError>
+    ensures { IfOk result (λ reply. reply ≡ found_reply wish answers.now) }
 {
-    if is_empty_answer(told) {
-        return empty_reply(alloc, wish);
+    if answers.is_empty() && !wish.wants_array {
+        return Ok(Reply {
+            status: Status::NoContent,
+            kind: Kind::DicomJson,
+            body: Listed::empty(alloc),
+            is_literal: wish.is_fuzzy,
+        });
     }
-    match answers_in(told) {
-        Some(front) => Ok(found_reply(array_of(alloc, front)?, wish)),
-        None => unanswered(alloc, told),
-    }
-}
-
-/// What an institution keeps, in decimal digits.
-#[derive(Clone, Copy)]
-pub struct Counts<'a> {
-    pub studies: &'a str,
-    pub series: &'a str,
-    pub images: &'a str,
-    pub entries: &'a str,
-    pub steps: &'a str,
-}
-
-fn are_digits(text: &[u8]) -> bool
-    ensures { result ≡ list_all is_ascii_digit text.now }
-{
-    text.iter().all(|octet| octet.is_ascii_digit())
-}
-
-/// The text, where it is a number in decimal digits.
-fn number_in(text: &str) -> Option<&str>
-    ensures { IfSome result (λ number. (text.now ≡ number.now) × IsNumber number.now) }
-{
-    if text.is_empty() || !are_digits(text.as_bytes()) {
-        return None;
-    }
-    Some(text)
-}
-
-/// The number behind a word, and what comes behind a space after it.
-fn number_behind<'a>(text: &'a str, word: &str) -> Option<(&'a str, &'a str)>
-    ensures { IfSome result (λ parts. IsNumberBehind word.now parts.0.now parts.1.now text.now) }
-{
-    let Some(rest) = behind(text, word) else {
-        return None;
-    };
-    let Some((number, rest)) = at_space(rest) else {
-        return None;
-    };
-    match number_in(number) {
-        Some(number) => Some((number, rest)),
-        None => None,
-    }
-}
-
-/// The counts that the line of a report tells behind its name.
-pub(crate) fn counts_in(line: &str) -> Option<Counts<'_>>
-    ensures { IfSome result (AreCounts line.now) }
-{
-    let Some((studies, rest)) = number_behind(line, "studies ") else {
-        return None;
-    };
-    let Some((series, rest)) = number_behind(rest, "series ") else {
-        return None;
-    };
-    let Some((images, rest)) = number_behind(rest, "images ") else {
-        return None;
-    };
-    let Some((entries, rest)) = number_behind(rest, "entries ") else {
-        return None;
-    };
-    let Some(rest) = behind(rest, "steps ") else {
-        return None;
-    };
-    match number_in(rest) {
-        Some(steps) => Some(Counts {
-            studies,
-            series,
-            images,
-            entries,
-            steps,
-        }),
-        None => None,
-    }
-}
-
-/// What stands behind a name and a space.
-fn behind_name<'a>(line: &'a str, name: &str) -> Option<&'a str>
-    ensures { IfSome result (λ rest. line.now ≡ name.now ++ (codes " " ++ rest.now)) }
-{
-    match behind(line, name) {
-        Some(rest) => behind(rest, " "),
-        None => None,
-    }
-}
-
-/// What the line of a name tells: the first that begins with it and a space.
-fn own_line<'a>(told: &'a str, name: &str) -> Option<&'a str>
-    ensures { IfSome result (λ rest. IsOwnLine told.now name.now rest.now) }
-{
-    for line in told.lines() {
-        if let Some(rest) = behind_name(line, name) {
-            return Some(rest);
-        }
-    }
-    None
+    array_reply(alloc, wish.is_fuzzy, answers)
 }
 
 /// Adds the limit of a kind.
@@ -386,19 +214,19 @@ fn put_limit(alloc: Global, body: &mut Vec<u8>, limit: u32) -> Result<(), AllocE
 fn put_study_counts(
     alloc: Global,
     body: &mut Vec<u8>,
-    counts: Counts<'_>,
+    counts: Counts,
     institution: &Institution,
 ) -> Result<(), AllocError>
     ensures { OnOk result (body.new.items ≡ body.old.items
-        ++ study_counts_text counts.entry institution.now) }
+        ++ study_counts_text counts institution.now) }
 {
     put(body, STUDIES)?;
-    put(body, counts.studies)?;
+    put_number(alloc, body, counts.studies)?;
     put_limit(alloc, body, institution.studies)?;
     put(body, SERIES)?;
-    put(body, counts.series)?;
+    put_number(alloc, body, counts.series)?;
     put(body, IMAGES)?;
-    put(body, counts.images)?;
+    put_number(alloc, body, counts.images)?;
     put_limit(alloc, body, institution.images)
 }
 
@@ -406,17 +234,17 @@ fn put_study_counts(
 fn put_step_counts(
     alloc: Global,
     body: &mut Vec<u8>,
-    counts: Counts<'_>,
+    counts: Counts,
     institution: &Institution,
 ) -> Result<(), AllocError>
     ensures { OnOk result (body.new.items ≡ body.old.items
-        ++ step_counts_text counts.entry institution.now) }
+        ++ step_counts_text counts institution.now) }
 {
     put(body, ENTRIES)?;
-    put(body, counts.entries)?;
+    put_number(alloc, body, counts.entries)?;
     put_limit(alloc, body, institution.entries)?;
     put(body, STEPS)?;
-    put(body, counts.steps)?;
+    put_number(alloc, body, counts.steps)?;
     put_limit(alloc, body, institution.steps)?;
     put(body, CLOSE)
 }
@@ -424,10 +252,10 @@ fn put_step_counts(
 /// The counts of an institution beside its limits, as JSON.
 fn counts_text(
     alloc: Global,
-    counts: Counts<'_>,
+    counts: Counts,
     institution: &Institution,
 ) -> Result<Vec<u8>, AllocError>
-    ensures { IfOk result (λ body. body.items ≡ counts_text counts.entry institution.now) }
+    ensures { IfOk result (λ body. body.items ≡ counts_text counts institution.now) }
 {
     let mut body = Vec::new(alloc);
     put_study_counts(alloc, &mut body, counts, institution)?;
@@ -435,139 +263,141 @@ fn counts_text(
     Ok(body)
 }
 
-fn same_octets(one: &[u8], other: &[u8]) -> bool
-    ensures { result ≡ bytes_eq one.now other.now }
-{
-    one == other
-}
-
 /// The institution of a name.
 fn institution_of<'a>(institutions: &'a [Institution], name: &[u8]) -> Option<&'a Institution>
-    ensures { IfSome result (λ institution.
-        bytes_eq institution.now.name name.now ≡ true) }
+    ensures { option_copied result ≡ find (is_named_so name.now) institutions.now }
 {
-    for institution in institutions {
-        if same_octets(institution.name.as_slice(), name) {
-            return Some(institution);
-        }
-    }
-    None
+    institutions
+        .iter()
+        .find(|institution| institution.name.as_slice() == name)
 }
 
-/// The counts that a report tells of a name.
-fn counts_of<'a>(told: &'a [u8], name: &[u8]) -> Option<Counts<'a>>
-    ensures { IfSome result (λ counts. (line : List ℕ) × IsOwnLine told.now name.now line
-        × AreCounts line counts) }
+/// How much the institution of a name keeps.
+fn counted_of<'a>(counted: &'a [Counted], name: &[u8]) -> Option<&'a Counted>
+    ensures { option_copied result ≡ find (is_counted_of name.now) counted.now }
 {
-    let Ok(told) = str::from_utf8(told) else {
-        return None;
-    };
-    let Ok(name) = str::from_utf8(name) else {
-        return None;
-    };
-    match own_line(told, name) {
-        Some(line) => counts_in(line),
-        None => None,
-    }
+    counted
+        .iter()
+        .find(|counted| counted.institution.as_slice() == name)
 }
 
-/// The response with what an institution keeps: nothing of the lines of others enters it.
+/// The response with what an institution keeps: nothing that others keep enters it.
 fn counts_reply(
     alloc: Global,
     name: &[u8],
-    told: &[u8],
+    counted: &[Counted],
     institutions: &[Institution],
 ) -> Result<Reply, AllocError>
-    ensures { IfOk result (IsCountsReply name.now told.now) }
+    ensures { IfOk result (λ reply. reply ≡ counts_reply name.now counted.now institutions.now) }
 {
-    let Some(institution) = institution_of(institutions, name) else {
-        return unanswered(alloc, told);
+    let Some(counted) = counted_of(counted, name) else {
+        return server_reply(alloc);
     };
-    match counts_of(told, name) {
-        Some(counts) => {
-            let body = counts_text(alloc, counts, institution)?;
-            Ok(reply_of(Status::Done, Kind::Json, body))
-        }
-        None => unanswered(alloc, told),
-    }
+    let Some(institution) = institution_of(institutions, name) else {
+        return server_reply(alloc);
+    };
+    let body = counts_text(alloc, counted.counts, institution)?;
+    Ok(plain(Status::Done, Kind::Json, body))
 }
 
 /// The response with what the server counts of itself and of each institution.
 fn metrics_reply(
     alloc: Global,
-    told: &[u8],
-    institutions: &[Institution],
-    counters: &Counters,
-) -> Result<Reply, AllocError> {
-    match str::from_utf8(told) {
-        Ok(told) => {
-            let body = metrics_text(alloc, told, institutions, counters)?;
-            Ok(reply_of(Status::Done, Kind::Metrics, body))
-        }
-        Err(_) => unanswered(alloc, told),
-    }
-}
-
-/// The response to a question, by its form.
-fn reply_to(
-    alloc: Global,
-    question: &Question,
-    told: &[u8],
+    counted: &[Counted],
     institutions: &[Institution],
     counters: &Counters,
 ) -> Result<Reply, AllocError>
-    ensures { IfOk result (IsReplyTo question.now told.now) }
+    ensures { IfOk result IsMetricsReply }
 {
-    match question.form {
-        Form::Answers => answers_reply(alloc, question.wish, told),
-        Form::Counts => counts_reply(alloc, question.name.as_slice(), told, institutions),
-        Form::Metrics => metrics_reply(alloc, told, institutions, counters),
-        Form::Scheduled => order_reply(alloc, Form::Scheduled, told),
-        Form::Withdrawn => order_reply(alloc, Form::Withdrawn, told),
-        Form::BackedUp => order_reply(alloc, Form::BackedUp, told),
+    let body = metrics_text(alloc, counted, institutions, counters)?;
+    Ok(plain(Status::Done, Kind::Metrics, body))
+}
+
+/// The response to an order that is done.
+fn done_reply(alloc: Global, asked: &Request) -> Result<Reply, AllocError>
+    ensures { IfOk result (λ reply. reply ≡ done_reply asked.now) }
+{
+    let status = match asked {
+        Request::Schedule { .. } => Status::Created,
+        Request::Withdraw { .. } => Status::NoContent,
+        Request::Backup(_) => Status::Done,
+        _ => return server_reply(alloc),
+    };
+    Ok(plain(status, Kind::Json, Vec::new(alloc)))
+}
+
+/// The response to a question.
+fn reply_to(
+    alloc: Global,
+    question: &Question,
+    response: &Response,
+    institutions: &[Institution],
+    counters: &Counters,
+) -> Result<Reply, AllocError>
+    ensures { IfOk result (IsReplyTo question.now response.now institutions.now) }
+{
+    match (&question.asked, response) {
+        (_, Response::Refused(cause)) => cause_reply(alloc, *cause),
+        (asked, Response::Done) => done_reply(alloc, asked),
+        (Request::Search(_), Response::Found(answers)) => {
+            found_reply(alloc, question.wish, answers.as_slice())
+        }
+        (Request::Counts(name), Response::Counted(counted)) => {
+            counts_reply(alloc, name.as_slice(), counted.as_slice(), institutions)
+        }
+        (Request::Report, Response::Counted(counted)) => {
+            metrics_reply(alloc, counted.as_slice(), institutions, counters)
+        }
+        _ => server_reply(alloc),
     }
 }
 
-/// The response to a question, as octets, by what the console told.
+/// The response to a question, as octets, by what the server answered.
 pub fn answered(
     alloc: Global,
     question: &Question,
-    told: &[u8],
+    response: &Response,
     institutions: &[Institution],
     counters: &Counters,
-) -> Result<Vec<u8>, AllocError>
-    ensures { IfOk result (λ octets.
-        IsResponse (IsReplyTo question.now told.now) question.now.framing octets.items) }
+) -> Result<Written, AllocError>
+    ensures { IfOk result (IsResponse (IsReplyTo question.now response.now institutions.now)
+        question.now.framing) }
 {
-    let reply = reply_to(alloc, question, told, institutions, counters)?;
+    let reply = reply_to(alloc, question, response, institutions, counters)?;
     printed(alloc, &reply, question.framing)
 }
 
 /// The response to a request that the front refuses, as octets.
-pub fn refused(alloc: Global, refusal: Refusal, framing: Framing) -> Result<Vec<u8>, AllocError>
-    ensures { IfOk result (λ octets.
-        IsResponse (λ reply. reply.status ≡ refusal_status refusal) framing octets.items) }
+pub fn refused(alloc: Global, refusal: Refusal, framing: Framing) -> Result<Written, AllocError>
+    ensures { IfOk result (IsWritten (refusal_reply refusal) framing) }
 {
     let reply = refused_reply(alloc, Status::of(refusal), refusal.word())?;
     printed(alloc, &reply, framing)
 }
 
+/// The response to a search with a word that is none of it, as octets.
+pub fn misspelled(alloc: Global, word: &str, framing: Framing) -> Result<Written, AllocError>
+    ensures { IfOk result (IsWritten (misspelled_reply word.now) framing) }
+{
+    printed(alloc, &misspelled_reply(alloc, word)?, framing)
+}
+
 /// A document of the page for people.
 fn document_reply(alloc: Global, document: Document) -> Result<Reply, AllocError>
-    ensures { IfOk result (IsDocument document) }
+    ensures { IfOk result (λ reply. reply ≡ document_reply document) }
 {
     match document {
-        Document::Page => Ok(reply_of(
+        Document::Page => Ok(plain(
             Status::Done,
             Kind::Page,
             Vec::from_slice(alloc, INDEX.as_bytes())?,
         )),
-        Document::Style => Ok(reply_of(
+        Document::Style => Ok(plain(
             Status::Done,
             Kind::Style,
             Vec::from_slice(alloc, STYLE.as_bytes())?,
         )),
-        Document::Script => Ok(reply_of(
+        Document::Script => Ok(plain(
             Status::Done,
             Kind::Script,
             Vec::from_slice(alloc, SCRIPT.as_bytes())?,
@@ -576,16 +406,16 @@ fn document_reply(alloc: Global, document: Document) -> Result<Reply, AllocError
 }
 
 /// A document of the page for people, as octets of a response.
-pub fn document(alloc: Global, document: Document, framing: Framing) -> Result<Vec<u8>, AllocError>
-    ensures { IfOk result (λ octets. IsResponse (IsDocument document) framing octets.items) }
+pub fn document(alloc: Global, document: Document, framing: Framing) -> Result<Written, AllocError>
+    ensures { IfOk result (IsWritten (document_reply document) framing) }
 {
     printed(alloc, &document_reply(alloc, document)?, framing)
 }
 
 /// The response that the front is there, as octets.
-pub fn healthy(alloc: Global, framing: Framing) -> Result<Vec<u8>, AllocError>
-    ensures { IfOk result (λ octets. IsResponse IsHealthReply framing octets.items) }
+pub fn healthy(alloc: Global, framing: Framing) -> Result<Written, AllocError>
+    ensures { IfOk result (IsWritten health_reply framing) }
 {
-    let reply = reply_of(Status::Done, Kind::Text, Vec::from_slice(alloc, b"ok\n")?);
+    let reply = plain(Status::Done, Kind::Text, Vec::from_slice(alloc, b"ok\n")?);
     printed(alloc, &reply, framing)
 }

@@ -1,31 +1,25 @@
-//! What requests ask of the console.
-ghost use Rattle.std.specs.Prelude.{◌≡◌, ◌==◌, ◌++◌, ◌||◌, codes, Some, IsTrue, IfOk, OnOk, IfNone, is_some, option_copied};
+//! What requests of HTTP ask of the server.
+ghost use Rattle.std.specs.Prelude.{◌≡◌, ◌==◌, ◌++◌, ◌∷◌, [], ◌||◌, codes, Some, IsTrue, IfOk, OnOk, IfNone, MatchOption, MatchBool, is_some, option_copied};
 ghost use Rattle.std.specs.List.{list_all, list_any, starts_with};
 ghost use Rattle.std.specs.Str.{bytes_eq};
 ghost use Rattle.percent_encoding.specs.Percent.{percent_decode};
-ghost use Rattle.dq_web.specs.declared.asking.Form.TheVariants as forms;
-ghost use Rattle.dq_web.specs.Asking.{is_visible, is_printable, is_left_out, is_limit, query_words, digits_of, owner_of, Says, IsPathAndQuery, IsTarget, IsMethod, Looking, Posting, Deleting, Asks, has_no_slash, is_plain_segment, is_plain_path, is_page, IsLetIn, IsJudged, is_fuzzy, parts_of, wish_of, IsAsked};
+ghost use Rattle.dq_request.specs.Searches.{TakesWords, StopsAt};
+ghost use Rattle.dq_web.specs.Asking.{is_visible, is_printable, is_left_out, parts_of, words_among, words_in, uid_key, hundred_of, series_of, images_of, IsSearchAt, owner_of, IsPathAndQuery, IsTarget, IsMethod, IsLooked, IsBackup, Posting, Deleting, IsWanted, has_no_slash, is_plain_segment, is_plain_path, is_page, IsLetIn, IsJudged, is_fuzzy, wish_of, IsAsked};
 
-use crate::cutting::{Fields, Head, Request};
+use crate::cutting::{Fields, Head, HttpRequest};
 use crate::guard::Guard;
 use crate::keys::OPERATOR;
 use crate::places::{Place, at_slash, behind, place_of};
 use crate::refusal::{Allowed, Refusal};
 use crate::replies::Framing;
 use dq_list::Listed;
+use dq_request::{Request, Search, Subject};
+use dq_vr::{Tag, tags};
 use percent_encoding::percent_decode;
 use std::alloc::{AllocError, Global};
 
-/// How the console's answer to a line becomes a response.
-#[derive(Clone, Copy, Debug, PartialEq, Eq)]
-pub enum Form {
-    Answers,
-    Counts,
-    Scheduled,
-    Withdrawn,
-    BackedUp,
-    Metrics,
-}
+/// The most that a search shows where its query says no limit.
+const LIMIT: usize = 100;
 
 /// How the answers to a search are wanted.
 #[derive(Clone, Copy, Debug, PartialEq, Eq)]
@@ -36,12 +30,10 @@ pub struct Wish {
     pub is_fuzzy: bool,
 }
 
-/// A line of the console, how its answer is sent back, and whose key opened it.
+/// What is asked of the server, and how its response is sent back.
 #[derive(Debug, Drop)]
 pub struct Question {
-    pub line: Listed<u8>,
-    pub form: Form,
-    pub name: Listed<u8>,
+    pub asked: Request,
     pub wish: Wish,
     /// How its response is framed. Whoever holds the connection says so.
     pub framing: Framing,
@@ -59,6 +51,8 @@ pub enum Document {
 #[derive(Debug, Drop)]
 pub enum Asked {
     Refused(Refusal),
+    /// A part of its query is no word of a search.
+    Misspelled(String),
     Document(Document),
     Health,
     Question(Question),
@@ -80,6 +74,14 @@ pub struct Aim<'a> {
     pub place: Place<'a>,
     pub method: Method,
     pub query: &'a str,
+}
+
+/// What a path, a method, a query and a body come to.
+#[derive(Drop)]
+enum Wanted {
+    Request(Request),
+    /// The part of the query that is no word of the search.
+    Misspelled(String),
 }
 
 /// Why nothing is asked.
@@ -290,37 +292,44 @@ pub(crate) fn begins(text: &str, word: &str) -> bool
     text.starts_with(word)
 }
 
-/// Whether a part of a query says nothing to the console: which attributes are asked for, since all
-/// are answered, and fuzzy matching, which there is none of.
+/// Whether a part of a query says nothing here: which attributes are asked for, since all are
+/// answered, and fuzzy matching, which there is none of.
 fn is_left_out(part: &str) -> bool
     ensures { result ≡ is_left_out part.now }
 {
     part.is_empty() || begins(part, "includefield=") || begins(part, "fuzzymatching=")
 }
 
-fn is_limit(part: &str) -> bool
-    ensures { result ≡ is_limit part.now }
+/// Takes a part of a query as a word of a search, unless it says nothing here. The answer is whether
+/// the search goes on.
+fn take_part(alloc: Global, search: &mut Search, part: &str) -> Result<bool, AllocError>
+    ensures { IfOk result (λ is_taken. MatchBool is_taken
+        (TakesWords (words_among (part.now ∷ [])) search.old search.new)
+        (StopsAt part.now (words_among (part.now ∷ [])) search.old)) }
 {
-    begins(part, "limit=")
+    if is_left_out(part) {
+        return Ok(true);
+    }
+    search.take_word(alloc, part)
 }
 
-/// The words of a query, each behind a space: its parts as they came, and a limit.
-fn words_of(alloc: Global, query: &str) -> Result<Vec<u8>, AllocError>
-    ensures { IfOk result (λ words. words.items ≡ query_words query.now) }
+/// Takes the parts of a query as words of a search. The answer is the first that is none, if there
+/// is one.
+fn take_parts<'a>(
+    alloc: Global,
+    search: &mut Search,
+    query: &'a str,
+) -> Result<Option<&'a str>, AllocError>
+    ensures { IfOk result (λ refused. MatchOption refused
+        (TakesWords (words_in query.now) search.old search.new)
+        (λ part. StopsAt part.now (words_in query.now) search.old)) }
 {
-    let mut words = Vec::new(alloc);
-    let mut is_limited = false;
     for part in query.split('&') {
-        is_limited = is_limited || is_limit(part);
-        if !is_left_out(part) {
-            words.push(b' ')?;
-            words.extend_from_slice(part.as_bytes())?;
+        if !take_part(alloc, search, part)? {
+            return Ok(Some(part));
         }
     }
-    if !is_limited {
-        words.extend_from_slice(b" limit=100")?;
-    }
-    Ok(words)
+    Ok(None)
 }
 
 fn is_fuzzy(part: &str) -> bool
@@ -350,194 +359,152 @@ fn wish_of(fields: &Fields<'_>, query: &str) -> Wish
     }
 }
 
-/// A question about a name.
-fn make_question(
-    alloc: Global,
-    line: Vec<u8>,
-    form: Form,
-    name: &[u8],
-) -> Result<Question, AllocError>
-    ensures { IfOk result (λ question. (question.line ≡ line.items) × (question.form ≡ form)
-        × (question.name ≡ name.now)) }
-{
-    Ok(Question {
-        line: Listed::from_inner(line),
-        form,
-        name: Listed::copy_of(alloc, name)?,
-        wish: Wish {
-            wants_array: false,
-            is_fuzzy: false,
-        },
-        framing: Framing {
-            is_last: false,
-            is_head: false,
-            date: None,
-        },
-    })
-}
-
 /// A search of what an institution keeps.
-fn look(alloc: Global, start: Vec<u8>, name: &str, query: &str) -> Result<Question, AllocError>
-    ensures { IfOk result (Says (start.items ++ query_words query.now) Form.Answers name.now) }
+fn search_of(alloc: Global, subject: Subject, name: &str) -> Result<Search, AllocError>
+    ensures { IfOk result (λ search. search ≡ hundred_of subject name.now []) }
 {
-    let mut line = start;
-    line.extend_from_slice(words_of(alloc, query)?.as_slice())?;
-    make_question(alloc, line, Form::Answers, name.as_bytes())
+    let institution = Listed::copy_of(alloc, name.as_bytes())?;
+    Ok(Search::new(alloc, subject, institution, LIMIT))
 }
 
-/// A word of the console, and the name of an institution behind it.
-fn start_of(alloc: Global, word: &str, name: &str) -> Result<Vec<u8>, AllocError>
-    ensures { IfOk result (λ start. start.items ≡ word.now ++ name.now) }
+/// Gives a search a UID that stands in the path.
+fn put_uid(alloc: Global, search: &mut Search, tag: Tag, text: &str) -> Result<(), Unasked>
+    ensures { OnOk result (search.new ≡ record search.old {
+      keys = search.old.keys ++ uid_key tag text.now ∷ [];
+    }) }
 {
-    let mut start = Vec::from_slice(alloc, word.as_bytes())?;
-    start.extend_from_slice(name.as_bytes())?;
-    Ok(start)
-}
-
-/// An order of a word about octets, in hexadecimal.
-fn order(alloc: Global, word: &str, name: &str, octets: &[u8]) -> Result<Vec<u8>, AllocError>
-    ensures { IfOk result (λ line. line.items
-        ≡ word.now ++ name.now ++ codes " " ++ digits_of octets.now) }
-{
-    let mut line = start_of(alloc, word, name)?;
-    line.push(b' ')?;
-    if octets.is_empty() {
-        line.push(b'-')?;
+    if search.take_value(alloc, tag, text)? {
+        Ok(())
     } else {
-        line.extend_from_slice(hex::encode(alloc, octets)?.as_bytes())?;
+        Err(Unasked::Refused(Refusal::Request))
     }
-    Ok(line)
 }
 
-/// The series of a study.
-fn series_at(alloc: Global, name: &str, study: &str) -> Result<Vec<u8>, AllocError>
-    ensures { IfOk result (λ line. line.items
-        ≡ codes "series " ++ name.now ++ codes " StudyInstanceUID=" ++ study.now) }
+/// The search of the series of a study.
+fn series_of(alloc: Global, name: &str, study: &str) -> Result<Search, Unasked>
+    ensures { IfOk result (λ search. search ≡ series_of name.now study.now) }
 {
-    let mut line = start_of(alloc, "series ", name)?;
-    line.extend_from_slice(b" StudyInstanceUID=")?;
-    line.extend_from_slice(study.as_bytes())?;
-    Ok(line)
+    let mut search = search_of(alloc, Subject::Series, name)?;
+    put_uid(alloc, &mut search, tags::STUDY_INSTANCE_UID, study)?;
+    Ok(search)
 }
 
-/// The images of a series.
-fn images_at(alloc: Global, name: &str, study: &str, series: &str) -> Result<Vec<u8>, AllocError>
-    ensures { IfOk result (λ line. line.items
-        ≡ codes "images " ++ name.now ++ codes " StudyInstanceUID=" ++ study.now
-        ++ codes " SeriesInstanceUID=" ++ series.now) }
+/// The search of the images of a series.
+fn images_of(alloc: Global, name: &str, study: &str, series: &str) -> Result<Search, Unasked>
+    ensures { IfOk result (λ search. search ≡ images_of name.now study.now series.now) }
 {
-    let mut line = start_of(alloc, "images ", name)?;
-    line.extend_from_slice(b" StudyInstanceUID=")?;
-    line.extend_from_slice(study.as_bytes())?;
-    line.extend_from_slice(b" SeriesInstanceUID=")?;
-    line.extend_from_slice(series.as_bytes())?;
-    Ok(line)
+    let mut search = search_of(alloc, Subject::Images, name)?;
+    put_uid(alloc, &mut search, tags::STUDY_INSTANCE_UID, study)?;
+    put_uid(alloc, &mut search, tags::SERIES_INSTANCE_UID, series)?;
+    Ok(search)
 }
 
-/// A report of what is kept, of which the response takes what the form shows.
-fn report_for(alloc: Global, form: Form, name: &[u8]) -> Result<Question, AllocError>
-    ensures { IfOk result (Says (codes "report") form name.now) }
-{
-    make_question(alloc, Vec::from_slice(alloc, b"report")?, form, name)
-}
-
-/// What GET asks.
-fn look_at(alloc: Global, place: Place<'_>, query: &str) -> Result<Question, Unasked>
-    ensures asks { IfOk result (Looking place.entry query.now) }
-    ensures owner { IfOk result (λ question. question.name ≡ owner_of place.entry) }
+/// The search at a path, before its query says more.
+fn search_at(alloc: Global, place: Place<'_>) -> Result<Search, Unasked>
+    ensures { IfOk result (IsSearchAt place.entry) }
 {
     match place {
-        Place::Studies(name) => Ok(look(alloc, start_of(alloc, "studies ", name)?, name, query)?),
-        Place::Series(name, study) => Ok(look(alloc, series_at(alloc, name, study)?, name, query)?),
-        Place::Images(name, study, series) => {
-            Ok(look(alloc, images_at(alloc, name, study, series)?, name, query)?)
-        }
-        Place::Worklist(name) => Ok(look(alloc, start_of(alloc, "worklist ", name)?, name, query)?),
-        Place::Steps(name) => Ok(look(alloc, start_of(alloc, "steps ", name)?, name, query)?),
-        Place::Counts(name) => Ok(report_for(alloc, Form::Counts, name.as_bytes())?),
-        Place::Metrics => Ok(report_for(alloc, Form::Metrics, OPERATOR)?),
+        Place::Studies(name) => Ok(search_of(alloc, Subject::Studies, name)?),
+        Place::Series(name, study) => series_of(alloc, name, study),
+        Place::Images(name, study, series) => images_of(alloc, name, study, series),
+        Place::Worklist(name) => Ok(search_of(alloc, Subject::Worklist, name)?),
+        Place::Steps(name) => Ok(search_of(alloc, Subject::Steps, name)?),
         Place::Unsearched(_) => Err(Unasked::Refused(Refusal::Unsupported)),
         _ => Err(Unasked::Refused(Refusal::Path)),
     }
 }
 
-/// An order to keep an entry.
-fn schedule(alloc: Global, name: &str, octets: &[u8]) -> Result<Question, AllocError>
-    ensures { IfOk result (Says (codes "schedule " ++ name.now ++ codes " " ++ digits_of octets.now)
-        Form.Scheduled name.now) }
+/// Refuses a search whose answers are in no form that is accepted.
+fn check_accept(fields: &Fields<'_>) -> Result<(), Refusal>
+    ensures { OnOk result (IsTrue fields.now.accepts_json) }
 {
-    let line = order(alloc, "schedule ", name, octets)?;
-    make_question(alloc, line, Form::Scheduled, name.as_bytes())
+    if fields.accepts_json {
+        Ok(())
+    } else {
+        Err(Refusal::Accept)
+    }
 }
 
-/// An order to take an entry away, by the octets of its ID.
-fn withdrawal(alloc: Global, name: &str, id: &str) -> Result<Question, AllocError>
-    ensures { IfOk result (Says (codes "withdraw " ++ name.now ++ codes " "
-        ++ digits_of (percent_decode id.now)) Form.Withdrawn name.now) }
+/// What GET asks.
+fn look_at(
+    alloc: Global,
+    place: Place<'_>,
+    fields: &Fields<'_>,
+    query: &str,
+) -> Result<Wanted, Unasked>
+    ensures { IfOk result (IsLooked place.entry fields.now query.now) }
 {
-    let mut octets = Vec::new(alloc);
-    percent_decode(id.as_bytes()).append_to(&mut octets)?;
-    let line = order(alloc, "withdraw ", name, octets.as_slice())?;
-    make_question(alloc, line, Form::Withdrawn, name.as_bytes())
+    if let Place::Counts(name) = place {
+        let name = Listed::copy_of(alloc, name.as_bytes())?;
+        return Ok(Wanted::Request(Request::Counts(name)));
+    }
+    if let Place::Metrics = place {
+        return Ok(Wanted::Request(Request::Report));
+    }
+    let mut search = search_at(alloc, place)?;
+    check_accept(fields)?;
+    match take_parts(alloc, &mut search, query)? {
+        None => Ok(Wanted::Request(Request::Search(search))),
+        Some(part) => Ok(Wanted::Misspelled(String::from_str(alloc, part)?)),
+    }
 }
 
 /// An order to copy all rows to a path.
-fn back_up(alloc: Global, path: &[u8]) -> Result<Question, Unasked>
-    ensures { IfOk result (Says (codes "backup " ++ path.now) Form.BackedUp (codes "*")) }
+fn back_up(alloc: Global, path: &[u8]) -> Result<Request, Unasked>
+    ensures { IfOk result (IsBackup path.now) }
 {
-    if path.is_empty() || str::from_utf8(path).is_err() {
+    if path.is_empty() || !are_printable(path) {
         return Err(Unasked::Refused(Refusal::Request));
     }
-    let mut line = Vec::from_slice(alloc, b"backup ")?;
-    line.extend_from_slice(path)?;
-    Ok(make_question(alloc, line, Form::BackedUp, OPERATOR)?)
+    match str::from_utf8(path) {
+        Ok(path) => Ok(Request::Backup(String::from_str(alloc, path)?)),
+        Err(_) => Err(Unasked::Refused(Refusal::Request)),
+    }
 }
 
 /// What POST asks.
-fn post_at(alloc: Global, place: Place<'_>, body: &[u8]) -> Result<Question, Unasked>
-    ensures asks { IfOk result (Posting place.entry body.now) }
-    ensures owner { IfOk result (λ question. question.name ≡ owner_of place.entry) }
+fn post_at(alloc: Global, place: Place<'_>, body: &[u8]) -> Result<Request, Unasked>
+    ensures { IfOk result (Posting place.entry body.now) }
 {
     match place {
-        Place::Worklist(name) => Ok(schedule(alloc, name, body)?),
-        Place::Backup => Ok(back_up(alloc, body)?),
+        Place::Worklist(name) => Ok(Request::Schedule {
+            institution: Listed::copy_of(alloc, name.as_bytes())?,
+            octets: Listed::copy_of(alloc, body)?,
+        }),
+        Place::Backup => back_up(alloc, body),
         _ => Err(Unasked::Refused(Refusal::Path)),
     }
 }
 
 /// What DELETE asks.
-fn delete_at(alloc: Global, place: Place<'_>) -> Result<Question, Unasked>
-    ensures asks { IfOk result (Deleting place.entry) }
-    ensures owner { IfOk result (λ question. question.name ≡ owner_of place.entry) }
+fn delete_at(alloc: Global, place: Place<'_>) -> Result<Request, Unasked>
+    ensures { IfOk result (Deleting place.entry) }
 {
-    match place {
-        Place::Entry(name, id) => Ok(withdrawal(alloc, name, id)?),
-        _ => Err(Unasked::Refused(Refusal::Path)),
-    }
+    let Place::Entry(name, id) = place else {
+        return Err(Unasked::Refused(Refusal::Path));
+    };
+    let mut octets = Vec::new(alloc);
+    percent_decode(id.as_bytes()).append_to(&mut octets)?;
+    Ok(Request::Withdraw {
+        institution: Listed::copy_of(alloc, name.as_bytes())?,
+        id: Listed::from_inner(octets),
+    })
 }
 
-/// What a method asks of a place.
-fn question_of(
+/// What a head and a body ask.
+fn wanted_by(
     alloc: Global,
-    place: Place<'_>,
-    method: Method,
-    query: &str,
+    aim: Aim<'_>,
+    fields: &Fields<'_>,
     body: &[u8],
-) -> Result<Question, Unasked>
-    ensures asks { IfOk result (Asks method place.entry query.now body.now) }
-    ensures owner { IfOk result (λ question. question.name ≡ owner_of place.entry) }
-    ensures line { IfOk result (λ question. IsTrue (list_all is_printable question.line)) }
+) -> Result<Wanted, Unasked>
+    ensures { IfOk result (IsWanted aim.entry fields.now body.now) }
 {
-    let question = match method {
-        Method::Get | Method::Head => look_at(alloc, place, query)?,
-        Method::Post => post_at(alloc, place, body)?,
-        Method::Delete => delete_at(alloc, place)?,
-        Method::Other => return Err(Unasked::Refused(Refusal::Path)),
-    };
-    if are_printable(question.line.as_slice()) {
-        Ok(question)
-    } else {
-        Err(Unasked::Refused(Refusal::Request))
+    match aim.method {
+        Method::Get | Method::Head => look_at(alloc, aim.place, fields, aim.query),
+        Method::Post => Ok(Wanted::Request(post_at(alloc, aim.place, body)?)),
+        Method::Delete => Ok(Wanted::Request(delete_at(alloc, aim.place)?)),
+        Method::Other => Err(Unasked::Refused(Refusal::Path)),
     }
 }
 
@@ -588,18 +555,24 @@ fn let_in<'a>(alloc: Global, guard: &Guard, head: &Head<'a>) -> Result<Aim<'a>, 
     })
 }
 
-/// Refuses a search whose answers are in no form that is accepted.
-fn check_accept(form: Form, fields: &Fields<'_>) -> Result<(), Refusal>
-    ensures { OnOk result (form ≡ forms.Answers → IsTrue fields.now.accepts_json) }
+/// A question, before its framing is known.
+fn question_of(asked: Request, wish: Wish) -> Question
+    ensures asked { result.asked ≡ asked }
+    ensures wish { result.wish ≡ wish }
 {
-    if form == Form::Answers && !fields.accepts_json {
-        return Err(Refusal::Accept);
+    Question {
+        asked,
+        wish,
+        framing: Framing {
+            is_last: false,
+            is_head: false,
+            date: None,
+        },
     }
-    Ok(())
 }
 
 /// What is done for a request, or why nothing is.
-fn answer_for(alloc: Global, guard: &Guard, request: &Request<'_>) -> Result<Asked, Unasked>
+fn answer_for(alloc: Global, guard: &Guard, request: &HttpRequest<'_>) -> Result<Asked, Unasked>
     ensures { IfOk result (IsAsked guard.now request.now) }
 {
     let aim = let_in(alloc, guard, &request.head)?;
@@ -610,17 +583,20 @@ fn answer_for(alloc: Global, guard: &Guard, request: &Request<'_>) -> Result<Ask
         Place::Health => Ok(Asked::Health),
         _ => {
             guard.open(owner_of(aim.place), request.head.fields.authorization)?;
-            let mut question = question_of(alloc, aim.place, aim.method, aim.query, request.body)?;
-            check_accept(question.form, &request.head.fields)?;
-            question.wish = wish_of(&request.head.fields, aim.query);
-            Ok(Asked::Question(question))
+            match wanted_by(alloc, aim, &request.head.fields, request.body)? {
+                Wanted::Request(asked) => {
+                    let wish = wish_of(&request.head.fields, aim.query);
+                    Ok(Asked::Question(question_of(asked, wish)))
+                }
+                Wanted::Misspelled(word) => Ok(Asked::Misspelled(word)),
+            }
         }
     }
 }
 
-/// What a request asks of the console, what else answers it, or why it is refused: a host that is not
+/// What a request asks of the server, what else answers it, or why it is refused: a host that is not
 /// the front's, a page of another origin, a path, a method, or a key that does not open the path.
-pub fn ask(alloc: Global, guard: &Guard, request: &Request<'_>) -> Result<Asked, AllocError>
+pub fn ask(alloc: Global, guard: &Guard, request: &HttpRequest<'_>) -> Result<Asked, AllocError>
     ensures { IfOk result (IsAsked guard.now request.now) }
 {
     match answer_for(alloc, guard, request) {

@@ -52,9 +52,9 @@ pub struct Head<'a> {
     pub body_length: usize,
 }
 
-/// A request: its head, and its body.
+/// A request of HTTP: its head, and its body.
 #[derive(Clone, Copy)]
-pub struct Request<'a> {
+pub struct HttpRequest<'a> {
     pub head: Head<'a>,
     pub body: &'a [u8],
     /// How many octets of the connection it takes.
@@ -68,7 +68,7 @@ pub enum Cut<'a> {
     Unfinished,
     /// A whole head, whose body has not come.
     Begun(Head<'a>),
-    Whole(Request<'a>),
+    Whole(HttpRequest<'a>),
     Refused(Refusal),
 }
 
@@ -278,7 +278,7 @@ fn request_at<'a>(
     let head = head_at(octets, headers, spans)?;
     let (_, rest) = octets.split_at(spans.len);
     match rest.split_at_checked(head.body_length) {
-        Some((body, _)) => Ok(Cut::Whole(Request {
+        Some((body, _)) => Ok(Cut::Whole(HttpRequest {
             head,
             body,
             extent: head.extent + body.len(),

@@ -1,43 +1,48 @@
 //! What holds of each question that is asked. Each function's contract is a law; its body does
 //! nothing.
-ghost use Rattle.std.specs.Prelude.{◌≡◌, ◌≢◌, ◌++◌, ◌∷◌, ℕ, List, codes, option_copied};
+ghost use Rattle.std.specs.Prelude.{◌≡◌, ◌≢◌, ℕ, List, String, codes, string_bytes, option_copied};
+ghost use Rattle.std.specs.Global.{Global};
+ghost use Rattle.dq_request.specs.declared.request.Request.TheVariants as ask;
+ghost use Rattle.dq_request.specs.declared.search.Search.{Search};
 ghost use Rattle.dq_web.specs.declared.asking.Asked.TheVariants as asked;
 ghost use Rattle.dq_web.specs.declared.asking.Question.{Question};
-ghost use Rattle.dq_web.specs.declared.cutting.Request.{Request};
+ghost use Rattle.dq_web.specs.declared.cutting.HttpRequest.{HttpRequest};
 ghost use Rattle.dq_web.specs.declared.guard.Guard.{Guard};
-ghost use Rattle.dq_web.specs.Asking.{IsAsked, IsQuestion, IsLook, IsScheduling, IsWithdrawing, IsBackingUp};
+ghost use Rattle.dq_web.specs.Asking.{IsAsked, IsQuestion, IsLook, IsBelow, IsScheduling, IsWithdrawing, IsBackingUp, owner_of_request};
 ghost use Rattle.dq_web.specs.Guards.{IsOpened};
 
-/// Without a key that opens its name no question is asked.
+/// Without a key of the institution that it names, or of the operator where it names none, nothing is asked.
 pub fn a_question_has_its_key()
-    ensures { (guard : Guard) (request : Request) (question : Question)
-        → (IsOpened guard.keys question.name (option_copied request.head.fields.authorization) → ⊥)
+    ensures { (guard : Guard) (request : HttpRequest) (question : Question)
+        → (IsOpened guard.keys (owner_of_request question.asked)
+        (option_copied request.head.fields.authorization) → ⊥)
         → IsAsked guard request (asked.Question question) → ⊥ }
 {}
 
-/// A request that is neither POST nor DELETE asks for a look, which changes nothing.
+/// A request that is neither POST nor DELETE asks for what changes nothing.
 pub fn a_get_only_looks()
-    ensures { (guard : Guard) (request : Request) (question : Question)
+    ensures { (guard : Guard) (request : HttpRequest) (question : Question)
         → IsQuestion guard request question → request.head.method.now ≢ codes "POST"
-        → request.head.method.now ≢ codes "DELETE" → IsLook question.line }
+        → request.head.method.now ≢ codes "DELETE" → IsLook question.asked }
 {}
 
-/// An order of the console comes from the one method and path that give it, about what they say.
+/// What is searched is what the institution of the path keeps.
+pub fn a_search_stays_in_its_institution()
+    ensures { (guard : Guard) (request : HttpRequest) (question : Question) (search : Search)
+        → IsQuestion guard request question → question.asked ≡ ask.Search search
+        → IsBelow request search.institution }
+{}
+
+/// An order comes from the one method and path that give it, about what they say.
 pub fn orders_are_exact()
-    ensures schedules { (guard : Guard) (request : Request) (question : Question)
-        → IsQuestion guard request question → (rest : List ℕ)
-        → question.line ≡ codes "schedule " ++ rest → IsScheduling request question }
-    ensures withdraws { (guard : Guard) (request : Request) (question : Question)
-        → IsQuestion guard request question → (rest : List ℕ)
-        → question.line ≡ codes "withdraw " ++ rest → IsWithdrawing request question }
-    ensures backs_up { (guard : Guard) (request : Request) (question : Question)
-        → IsQuestion guard request question → (rest : List ℕ)
-        → question.line ≡ codes "backup " ++ rest → IsBackingUp request question }
-{}
-
-/// The line of a question has no line feed, so it is one line.
-pub fn a_question_is_one_line()
-    ensures { (guard : Guard) (request : Request) (question : Question)
-        → IsQuestion guard request question → (front rest : List ℕ)
-        → question.line ≡ front ++ (10 ∷ rest) → ⊥ }
+    ensures schedules { (guard : Guard) (request : HttpRequest) (question : Question)
+        (institution octets : List ℕ) → IsQuestion guard request question
+        → question.asked ≡ ask.Schedule institution octets
+        → IsScheduling request institution octets }
+    ensures withdraws { (guard : Guard) (request : HttpRequest) (question : Question)
+        (institution id : List ℕ) → IsQuestion guard request question
+        → question.asked ≡ ask.Withdraw institution id → IsWithdrawing request institution id }
+    ensures backs_up { (guard : Guard) (request : HttpRequest) (question : Question)
+        (path : String Global) → IsQuestion guard request question
+        → question.asked ≡ ask.Backup path → IsBackingUp request (string_bytes path) }
 {}

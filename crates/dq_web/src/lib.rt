@@ -1,4 +1,4 @@
-//! What requests of HTTP ask of the console, and how its answers are sent back: no sockets, no rows.
+//! What requests of HTTP ask of the server, and how its answers are sent back: no sockets, no rows.
 #![tactic(auto)]
 
 mod answering;
@@ -15,12 +15,13 @@ mod refusal;
 mod replies;
 mod status;
 
-pub use answering::{answered, document, healthy, refused};
-pub use asking::{Aim, Asked, Document, Form, Method, Question, Wish, ask, judge};
+pub use answering::{answered, document, healthy, misspelled, refused};
+pub use asking::{Aim, Asked, Document, Method, Question, Wish, ask, judge};
 pub use counters::{Class, Counters, Operations, Service, Turns};
-pub use cutting::{BODY_MOST, Cut, Fields, HEAD_MOST, Head, Request, cut_off};
+pub use cutting::{BODY_MOST, Cut, Fields, HEAD_MOST, Head, HttpRequest, cut_off};
 pub use guard::Guard;
 pub use keys::{KeyEntry, Keys, KeysFault, OPERATOR};
 pub use places::{Place, place_of};
 pub use refusal::{Allowed, Refusal};
-pub use replies::Framing;
+pub use replies::{Framing, Written};
+pub use status::Status;

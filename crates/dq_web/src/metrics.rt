@@ -1,10 +1,9 @@
 //! What the server counts, in the text format 0.0.4 of Prometheus.
 
-use crate::answering::{Counts, counts_in};
 use crate::counters::{Counters, Operations, Turns};
-use crate::keys::at_space;
 use crate::replies::{put, put_number};
 use dq_config::Institution;
+use dq_request::Counted;
 use std::alloc::{AllocError, Global};
 
 /// Adds a sample: a name with its labels, and a value.
@@ -20,60 +19,65 @@ fn put_sample(
     put(text, "\n")
 }
 
-/// Adds a sample of an institution and a kind.
+/// Adds a sample of what an institution keeps of a kind.
 fn put_rows(
+    alloc: Global,
     text: &mut Vec<u8>,
-    metric: &str,
-    name: &str,
+    name: &[u8],
     kind: &str,
-    value: &str,
+    value: u64,
 ) -> Result<(), AllocError> {
-    put(text, metric)?;
-    put(text, "{institution=\"")?;
-    put(text, name)?;
+    put(text, "newtiron_rows{institution=\"")?;
+    put_kind(alloc, text, name, kind, value)
+}
+
+/// Adds a sample of what an institution may keep of a kind.
+fn put_limit(
+    alloc: Global,
+    text: &mut Vec<u8>,
+    name: &[u8],
+    kind: &str,
+    limit: u32,
+) -> Result<(), AllocError> {
+    put(text, "newtiron_rows_limit{institution=\"")?;
+    put_kind(alloc, text, name, kind, u64::from(limit))
+}
+
+/// Adds the labels of an institution and a kind, and a value.
+fn put_kind(
+    alloc: Global,
+    text: &mut Vec<u8>,
+    name: &[u8],
+    kind: &str,
+    value: u64,
+) -> Result<(), AllocError> {
+    text.extend_from_slice(name)?;
     put(text, "\",kind=\"")?;
     put(text, kind)?;
-    put(text, "\"} ")?;
-    put(text, value)?;
-    put(text, "\n")
+    put_sample(alloc, text, "\"}", value)
 }
 
 /// Adds how many rows an institution keeps.
-fn put_counts(text: &mut Vec<u8>, name: &str, counts: Counts<'_>) -> Result<(), AllocError> {
-    put_rows(text, "newtiron_rows", name, "studies", counts.studies)?;
-    put_rows(text, "newtiron_rows", name, "series", counts.series)?;
-    put_rows(text, "newtiron_rows", name, "images", counts.images)?;
-    put_rows(text, "newtiron_rows", name, "entries", counts.entries)?;
-    put_rows(text, "newtiron_rows", name, "steps", counts.steps)
+fn put_counts(alloc: Global, text: &mut Vec<u8>, counted: &Counted) -> Result<(), AllocError> {
+    let name = counted.institution.as_slice();
+    put_rows(alloc, text, name, "studies", counted.counts.studies)?;
+    put_rows(alloc, text, name, "series", counted.counts.series)?;
+    put_rows(alloc, text, name, "images", counted.counts.images)?;
+    put_rows(alloc, text, name, "entries", counted.counts.entries)?;
+    put_rows(alloc, text, name, "steps", counted.counts.steps)
 }
 
-/// Adds how many rows each institution keeps, by the lines of a report.
-fn put_report(text: &mut Vec<u8>, told: &str) -> Result<(), AllocError> {
+/// Adds how many rows each institution keeps.
+fn put_report(alloc: Global, text: &mut Vec<u8>, counted: &[Counted]) -> Result<(), AllocError> {
     put(
         text,
         "# HELP newtiron_rows Rows that an institution keeps.\n",
     )?;
     put(text, "# TYPE newtiron_rows gauge\n")?;
-    for line in told.lines() {
-        if let Some((name, rest)) = at_space(line) {
-            if let Some(counts) = counts_in(rest) {
-                put_counts(text, name, counts)?;
-            }
-        }
+    for one in counted {
+        put_counts(alloc, text, one)?;
     }
     Ok(())
-}
-
-/// Adds a limit of an institution.
-fn put_limit(
-    alloc: Global,
-    text: &mut Vec<u8>,
-    name: &str,
-    kind: &str,
-    limit: u32,
-) -> Result<(), AllocError> {
-    let limit = format!(in alloc; "{limit}")?;
-    put_rows(text, "newtiron_rows_limit", name, kind, limit.as_str())
 }
 
 /// Adds how many rows each institution may keep.
@@ -88,7 +92,7 @@ fn put_limits(
     )?;
     put(text, "# TYPE newtiron_rows_limit gauge\n")?;
     for institution in institutions {
-        let name = str::from_utf8(institution.name.as_slice()).unwrap_or("");
+        let name = institution.name.as_slice();
         put_limit(alloc, text, name, "studies", institution.studies)?;
         put_limit(alloc, text, name, "images", institution.images)?;
         put_limit(alloc, text, name, "entries", institution.entries)?;
@@ -200,15 +204,15 @@ fn put_turns(alloc: Global, text: &mut Vec<u8>, turns: Turns) -> Result<(), Allo
     put_sample(alloc, text, "newtiron_turn_seconds_count", turns.all)
 }
 
-/// What a report tells of each institution, their limits, and what the server counts of itself.
+/// What each institution keeps, their limits, and what the server counts of itself.
 pub(crate) fn metrics_text(
     alloc: Global,
-    told: &str,
+    counted: &[Counted],
     institutions: &[Institution],
     counters: &Counters,
 ) -> Result<Vec<u8>, AllocError> {
     let mut text = Vec::new(alloc);
-    put_report(&mut text, told)?;
+    put_report(alloc, &mut text, counted)?;
     put_limits(alloc, &mut text, institutions)?;
     put_associations(alloc, &mut text, counters)?;
     put_services(alloc, &mut text, counters)?;

@@ -1,4 +1,6 @@
 //! Why a request is refused.
+ghost use Rattle.std.specs.Prelude.{◌≡◌};
+ghost use Rattle.dq_web.specs.Responses.{refusal_word};
 
 /// The methods of what stands at a path.
 #[derive(Clone, Copy, Debug, PartialEq, Eq)]
@@ -9,10 +11,10 @@ pub enum Allowed {
     GetAndPost,
 }
 
-/// Why a request is refused before the console is asked.
+/// Why a request is refused before the server is asked.
 #[derive(Clone, Copy, Debug, PartialEq, Eq)]
 pub enum Refusal {
-    /// The request is none of the grammar, or no line of the console can tell it.
+    /// The request is none of the grammar, or asks for nothing that can be.
     Request,
     /// The head has too many octets or fields.
     Head,
@@ -50,7 +52,9 @@ impl Allowed {
 
 impl Refusal {
     /// Returns the one word for it in the body of a response.
-    pub fn word(self) -> &'static str {
+    pub fn word(self) -> &'static str
+        ensures { result.now ≡ refusal_word self }
+    {
         match self {
             Refusal::Request => "request",
             Refusal::Head => "head",

@@ -1,7 +1,8 @@
 //! Responses as octets (RFC 9112 section 2.1).
 ghost use Rattle.std.specs.Prelude.{◌≡◌, ◌++◌, length, IfOk, OnOk};
 ghost use Rattle.std.specs.Fmt.{decimal};
-ghost use Rattle.dq_web.specs.Responses.{content_type, extra_fields, has_content, guarding_fields, closing_field, date_field, warning_field, content, type_field, length_field, body_fields, head_text, whole_head_text, response_text};
+ghost use Rattle.dq_web.specs.Responses.{content_type, extra_fields, has_content, guarding_fields, closing_field, date_field, warning_field, content, type_field, length_field, body_fields, head_text, whole_head_text};
+ghost use Rattle.dq_web.specs.Answers.{IsWritten};
 
 use crate::refusal::Allowed;
 use crate::status::Status;
@@ -29,6 +30,13 @@ pub struct Reply {
     pub body: Listed<u8>,
     /// Whether fuzzy matching was asked for, of which there is none.
     pub is_literal: bool,
+}
+
+/// A response as octets, and its status.
+#[derive(Drop)]
+pub struct Written {
+    pub status: Status,
+    pub octets: Vec<u8>,
 }
 
 /// How a response is framed in the octets of its connection.
@@ -208,11 +216,14 @@ fn content(is_head: bool, body: &[u8]) -> &[u8]
     if is_head { &[] } else { body }
 }
 
-/// The octets of a response, as it is framed.
-pub(crate) fn printed(alloc: Global, reply: &Reply, framing: Framing) -> Result<Vec<u8>, AllocError>
-    ensures { IfOk result (λ octets. octets.items ≡ response_text reply.now framing) }
+/// A response, as it is framed.
+pub(crate) fn printed(alloc: Global, reply: &Reply, framing: Framing) -> Result<Written, AllocError>
+    ensures { IfOk result (IsWritten reply.now framing) }
 {
     let mut octets = head_of(alloc, reply, framing)?;
     octets.extend_from_slice(content(framing.is_head, reply.body.as_slice()))?;
-    Ok(octets)
+    Ok(Written {
+        status: reply.status,
+        octets,
+    })
 }

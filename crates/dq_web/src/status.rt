@@ -1,6 +1,6 @@
 //! The statuses of responses (RFC 9110 section 15).
 ghost use Rattle.std.specs.Prelude.{◌≡◌};
-ghost use Rattle.dq_web.specs.Responses.{status_line, refusal_status};
+ghost use Rattle.dq_web.specs.Responses.{status_line, status_code, refusal_status};
 
 use crate::refusal::{Allowed, Refusal};
 
@@ -27,6 +27,31 @@ pub enum Status {
 }
 
 impl Status {
+    /// Returns the status code.
+    pub fn code(self) -> u16
+        ensures { result ≡ status_code self }
+    {
+        match self {
+            Status::Done => 200,
+            Status::Created => 201,
+            Status::NoContent => 204,
+            Status::BadRequest => 400,
+            Status::Unauthorized => 401,
+            Status::Forbidden => 403,
+            Status::NotFound => 404,
+            Status::MethodNotAllowed(_) => 405,
+            Status::NotAcceptable => 406,
+            Status::Conflict => 409,
+            Status::TooLarge => 413,
+            Status::Misdirected => 421,
+            Status::HeadTooLarge => 431,
+            Status::ServerError => 500,
+            Status::NotImplemented => 501,
+            Status::Unavailable => 503,
+            Status::Full => 507,
+        }
+    }
+
     /// Returns the status code and the reason phrase.
     pub(crate) fn line(self) -> &'static str
         ensures { result.now ≡ status_line self }

@@ -71,8 +71,9 @@ def value_of(vr: str, text: str) -> bytes | None:
     return data_sets.padded(vr, octets)
 
 
-def words_of(text: str) -> tuple[dict[tuple[int, int], bytes], dict[str, int]]:
-    """The values of attributes that the parts of a query give, the limit and the offset."""
+def words_of(text: str, has_keys: bool) -> tuple[dict[tuple[int, int], bytes], dict[str, int]]:
+    """The values of attributes that the parts of a query give, if it may have any, the limit and
+    the offset."""
     keys, page = {}, {"limit": USUAL_PAGE, "offset": 0}
     for part in filter(None, text.split("&")):
         if part.startswith(LEFT_OUT):
@@ -84,7 +85,7 @@ def words_of(text: str) -> tuple[dict[tuple[int, int], bytes], dict[str, int]]:
         numbers = json_objects.tag_text(name.encode())
         tag: Any = None if numbers == "-" else tuple(map(int, numbers.split()))
         octets = value_of(DICTIONARY[tag], value) if equals and tag in DICTIONARY else None
-        if octets is None:
+        if octets is None or not has_keys:
             raise BadWord(part)
         keys.setdefault(tag, octets)
     return keys, page
@@ -104,14 +105,9 @@ def identifier(keys: dict[tuple[int, int], bytes], level: bytes,
 def searched(records: Records, subject: str, text: str,
              above: dict[tuple[int, int], bytes]) -> tuple[list[list[Element]], int]:
     """The data sets of a page, and the status of the search."""
-    keys, page = words_of(text)
+    keys, page = words_of(text, subject != "steps")
     keys |= above
     if subject == "steps":
-        if keys:
-            # (steps have no keys: all words of the console's line are told)
-            words = [part for part in text.split("&") if part and not part.startswith(LEFT_OUT)]
-            has_limit = any(word.startswith("limit=") for word in words)
-            raise BadWord(" ".join(words if has_limit else [*words, f"limit={USUAL_PAGE}"]))
         found, status = [step for _, step in sorted(records.steps.items())], 0
     else:
         asked = services.written(identifier(keys, LEVELS.get(subject, b""), subject == "worklist"),

@@ -1,9 +1,12 @@
 //! Calls of dq_web, with the examples of RFC 9110, RFC 9112 and FIPS 180-4.
 
+use dq_dataset::DataSet;
 use dq_list::Listed;
+use dq_request::{Cause, Counted, Counts, Request, Response, Search, Subject};
+use dq_vr::tags;
 use dq_web::{
-    Allowed, Asked, Counters, Cut, Form, Framing, Guard, Keys, KeysFault, Question, Refusal,
-    Service, Wish, answered, ask, cut_off, judge, refused,
+    Allowed, Asked, Counters, Cut, Framing, Guard, Keys, KeysFault, Question, Refusal, Service,
+    Wish, answered, ask, cut_off, judge, misspelled, refused,
 };
 use std::alloc::Global;
 use std::test::Fail;
@@ -18,6 +21,13 @@ const KEYS: &str = "# one key\r\n\
 
 const SEARCH: &[u8] =
     b"GET /NORTH/rs/studies?PatientName=ROE%2A&includefield=all&offset=2 HTTP/1.1\r\n\
+    host: localhost:8080\r\nAuthorization: Bearer abc\r\n\r\n";
+
+const SERIES: &[u8] =
+    b"GET /NORTH/rs/studies/1.2/series?StudyInstanceUID=9&Modality=CT HTTP/1.1\r\n\
+    host: localhost:8080\r\nAuthorization: Bearer abc\r\n\r\n";
+
+const MISSPELLED: &[u8] = b"GET /NORTH/rs/studies?offset=1&Patient=ROE HTTP/1.1\r\n\
     host: localhost:8080\r\nAuthorization: Bearer abc\r\n\r\n";
 
 const FOREIGN: &[u8] = b"GET /SOUTH/rs/studies HTTP/1.1\r\n\
@@ -41,15 +51,35 @@ fn framing_of(is_last: bool, is_head: bool) -> Framing {
     }
 }
 
-fn told_of(alloc: Global, form: Form, told: &[u8]) -> Result<Vec<u8>, Fail> {
-    told_as(alloc, form, told, false)
+fn schedule_of(alloc: Global) -> Result<Request, Fail> {
+    Ok(Request::Schedule {
+        institution: Listed::copy_of(alloc, b"NORTH")?,
+        octets: Listed::empty(alloc),
+    })
 }
 
-fn told_as(alloc: Global, form: Form, told: &[u8], is_wished: bool) -> Result<Vec<u8>, Fail> {
+fn search_of(alloc: Global) -> Result<Request, Fail> {
+    let name = Listed::copy_of(alloc, b"NORTH")?;
+    Ok(Request::Search(Search::new(alloc, Subject::Studies, name, 100)))
+}
+
+/// So many empty data sets, found.
+fn found_of(alloc: Global, count: usize) -> Result<Response, Fail> {
+    let mut answers = Listed::empty(alloc);
+    for _ in 0..count {
+        answers.push(DataSet::new(alloc))?;
+    }
+    Ok(Response::Found(answers))
+}
+
+fn sent(
+    alloc: Global,
+    asked: Request,
+    response: Response,
+    is_wished: bool,
+) -> Result<Vec<u8>, Fail> {
     let question = Question {
-        line: Listed::empty(alloc),
-        form,
-        name: Listed::copy_of(alloc, b"NORTH")?,
+        asked,
         wish: Wish {
             wants_array: is_wished,
             is_fuzzy: is_wished,
@@ -60,7 +90,17 @@ fn told_as(alloc: Global, form: Form, told: &[u8], is_wished: bool) -> Result<Ve
     counters.accept();
     counters.serve(Service::Find, 0xa900);
     counters.turn(2_500_000);
-    Ok(answered(alloc, &question, told, &[], &counters)?)
+    Ok(answered(alloc, &question, &response, &[], &counters)?.octets)
+}
+
+fn question_in(alloc: Global, octets: &[u8]) -> Result<Question, Fail> {
+    let Cut::Whole(request) = cut_off(octets) else {
+        return Err("no request")?;
+    };
+    match ask(alloc, &guard_of(alloc)?, &request)? {
+        Asked::Question(question) => Ok(question),
+        _ => Err("no question")?,
+    }
 }
 
 #[test]
@@ -110,69 +150,110 @@ fn keys_are_read(rt: HostRuntime) -> Result<(), Fail> {
 
 #[test]
 fn searches_are_asked(rt: HostRuntime) -> Result<(), Fail> {
+    let Request::Search(search) = question_in(rt.alloc(), SEARCH)?.asked else {
+        return Err("no search")?;
+    };
+    assert_eq!(rt; search.subject, Subject::Studies);
+    assert_eq!(rt; search.institution.as_slice(), b"NORTH".as_slice());
+    let keys = search.keys.as_slice();
+    assert_eq!(rt; keys.len(), 1);
+    assert_eq!(rt; keys[0].tag, tags::PATIENT_NAME);
+    assert_eq!(rt; keys[0].value.as_slice(), b"ROE*".as_slice());
+    assert_eq!(rt; search.page.offset, 2);
+    assert_eq!(rt; search.page.limit, 100);
+    let Request::Search(search) = question_in(rt.alloc(), SERIES)?.asked else {
+        return Err("no search")?;
+    };
+    let keys = search.keys.as_slice();
+    assert_eq!(rt; keys.len(), 3);
+    assert_eq!(rt; keys[0].tag, tags::STUDY_INSTANCE_UID);
+    assert_eq!(rt; keys[0].value.as_slice(), b"1.2".as_slice());
+    Ok(())
+}
+
+#[test]
+fn searches_are_refused(rt: HostRuntime) -> Result<(), Fail> {
     let guard = guard_of(rt.alloc())?;
-    let Cut::Whole(request) = cut_off(SEARCH) else {
-        return Err("no request")?;
-    };
-    let Asked::Question(question) = ask(rt.alloc(), &guard, &request)? else {
-        return Err("no question")?;
-    };
-    let line = b"studies NORTH PatientName=ROE%2A offset=2 limit=100";
-    assert_eq!(rt; question.line.as_slice(), line.as_slice());
     let Cut::Whole(request) = cut_off(FOREIGN) else {
         return Err("no request")?;
     };
     let asked = ask(rt.alloc(), &guard, &request)?;
     assert!(rt; matches!(asked, Asked::Refused(Refusal::Key)));
+    let Cut::Whole(request) = cut_off(MISSPELLED) else {
+        return Err("no request")?;
+    };
+    let Asked::Misspelled(word) = ask(rt.alloc(), &guard, &request)? else {
+        return Err("no word")?;
+    };
+    assert_eq!(rt; word.as_str(), "Patient=ROE");
+    let refused = misspelled(rt.alloc(), "a\"b", framing_of(false, false))?.octets;
+    assert!(rt; refused.starts_with(b"HTTP/1.1 400 Bad Request\r\n"));
+    assert!(rt; refused.ends_with(b"\r\n\r\n{\"refused\":\"keyword a\\\"b\"}"));
     Ok(())
 }
 
 #[test]
 fn entries_are_asked(rt: HostRuntime) -> Result<(), Fail> {
-    let guard = guard_of(rt.alloc())?;
-    let Cut::Whole(request) = cut_off(ENTRY) else {
-        return Err("no request")?;
+    let asked = question_in(rt.alloc(), ENTRY)?.asked;
+    let Request::Schedule {
+        institution,
+        octets,
+    } = asked
+    else {
+        return Err("no entry")?;
     };
-    assert!(rt; request.head.is_last);
-    let Asked::Question(question) = ask(rt.alloc(), &guard, &request)? else {
-        return Err("no question")?;
-    };
-    assert_eq!(rt; question.line.as_slice(), b"schedule NORTH 0800".as_slice());
+    assert_eq!(rt; institution.as_slice(), b"NORTH".as_slice());
+    assert_eq!(rt; octets.as_slice(), b"\x08\x00".as_slice());
     Ok(())
 }
 
 #[test]
 fn answers_are_sent(rt: HostRuntime) -> Result<(), Fail> {
-    let found = told_of(rt.alloc(), Form::Answers, b"{\"a\":1}\n{}\nend 2\n")?;
+    let alloc = rt.alloc();
+    let found = sent(alloc, search_of(alloc)?, found_of(alloc, 2)?, false)?;
     assert!(rt; found.starts_with(b"HTTP/1.1 200 OK\r\nCache-Control: no-store\r\n"));
     assert!(rt;
         found.ends_with(
             b"\r\nContent-Type: application/dicom+json\r\n\
-        Content-Length: 12\r\n\r\n[{\"a\":1},{}]"
+        Content-Length: 7\r\n\r\n[{},{}]"
         )
     );
-    let none = told_of(rt.alloc(), Form::Answers, b"end 0\n")?;
+    let none = sent(alloc, search_of(alloc)?, found_of(alloc, 0)?, false)?;
     assert!(rt; none.starts_with(b"HTTP/1.1 204 No Content\r\n"));
     assert!(rt; none.ends_with(b"frame-ancestors 'none'\r\n\r\n"));
-    let none = told_as(rt.alloc(), Form::Answers, b"end 0\n", true)?;
+    let none = sent(alloc, search_of(alloc)?, found_of(alloc, 0)?, true)?;
     assert!(rt; none.ends_with(b"\r\nContent-Length: 2\r\n\r\n[]"));
     assert!(rt;
         none.windows(25).any(|octets| octets == b"\r\nWarning: 299 newtiron \"".as_slice())
     );
-    let word = told_of(rt.alloc(), Form::Answers, b"refused keyword a\"b\n")?;
-    assert!(rt; word.starts_with(b"HTTP/1.1 400 Bad Request\r\n"));
-    assert!(rt; word.ends_with(b"\r\n\r\n{\"refused\":\"keyword a\\\"b\"}"));
-    let kept = told_of(rt.alloc(), Form::Scheduled, b"done\n")?;
+    let kept = sent(alloc, schedule_of(alloc)?, Response::Done, false)?;
     assert!(rt; kept.starts_with(b"HTTP/1.1 201 Created\r\n"));
-    let full = told_of(rt.alloc(), Form::Scheduled, b"refused 4\n")?;
+    let full = Response::Refused(Cause::Order(4));
+    let full = sent(alloc, schedule_of(alloc)?, full, false)?;
     assert!(rt; full.starts_with(b"HTTP/1.1 507 Insufficient Storage\r\n"));
+    assert!(rt; full.ends_with(b"\r\n\r\n{\"refused\":\"4\"}"));
     Ok(())
 }
 
 #[test]
 fn metrics_are_sent(rt: HostRuntime) -> Result<(), Fail> {
-    let told = b"NORTH studies 1 series 2 images 3 entries 4 steps 5\n";
-    let metrics = told_of(rt.alloc(), Form::Metrics, told)?;
+    let mut counted = Listed::empty(rt.alloc());
+    counted.push(Counted {
+        institution: Listed::copy_of(rt.alloc(), b"NORTH")?,
+        counts: Counts {
+            studies: 1,
+            series: 2,
+            images: 3,
+            entries: 4,
+            steps: 5,
+        },
+    })?;
+    let metrics = sent(
+        rt.alloc(),
+        Request::Report,
+        Response::Counted(counted),
+        false,
+    )?;
     let text = str::from_utf8(metrics.as_slice()).unwrap_or("");
     assert!(rt; text.contains("\nnewtiron_rows{institution=\"NORTH\",kind=\"images\"} 3\n"));
     assert!(rt; text.contains("\nnewtiron_associations_total{outcome=\"accepted\"} 1\n"));
@@ -186,7 +267,8 @@ fn metrics_are_sent(rt: HostRuntime) -> Result<(), Fail> {
         rt.alloc(),
         Refusal::Method(Allowed::GetAndPost),
         framing_of(true, false),
-    )?;
+    )?
+    .octets;
     assert!(rt; refused.starts_with(b"HTTP/1.1 405 Method Not Allowed\r\n"));
     assert!(rt;
         refused

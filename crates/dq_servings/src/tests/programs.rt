@@ -1,6 +1,7 @@
 //! The program over a writer that takes few octets and fails, a reader that is interrupted, and a store
 //! that is not closed. Its words, files and sockets are for the suites.
-use dq_program::{Host, Stores, Unclosed, Uncopied, Unkept, perform};
+use dq_program::{Host, Stores, Unclosed, Unkept, perform};
+use dq_request::Uncopied;
 use dq_tables::PlainTables;
 use std::alloc::Global;
 use std::io::{self, Read, Write};

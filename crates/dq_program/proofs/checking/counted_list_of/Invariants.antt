@@ -4,7 +4,7 @@ use Rattle.dq_program.proofs.checking.counted_list_of.Given as goal
 
 abbrev pub invariant-loop-institution : goal.invariant-loop-institution
 invariant-loop-institution g l = record {
-  text : g.C.CountsRows.is_honest l.counts
-      → l.text.items ≡ counted_check_text (g.C.CountsRows.rows l.initial.counts) (take l.institution-index l.institutions);
-  leads : g.C.CountsRows.leads l.initial.counts l.counts;
+  text : g.C.Counting.is_honest l.counts
+      → l.text.items ≡ counted_check_text (g.C.Counting.rows l.initial.counts) (take l.institution-index l.institutions);
+  leads : g.C.Counting.leads l.initial.counts l.counts;
 }

@@ -1,5 +1,5 @@
 use Rattle.dq_program.specs.Checks.{institution_lines}
-use Rattle.dq_program.proofs.Listed.{another}
+use Rattle.dq_desk.proofs.Listed.{another}
 use Rattle.dq_program.proofs.checking.list_of.Goals as goal
 
 pub loop-institution-preserved : goal.loop-institution-preserved

@@ -1,4 +1,4 @@
-use Rattle.std.proofs.Common.{◌≡◌, ℕ, List, [], ◌∷◌, ◌++◌, ap, append_assoc, codes, refl, ◌∙◌}
+use Rattle.std.proofs.Common.{◌≡◌, ℕ, List, [], ◌∷◌, ◌++◌, ap, append_assoc, codes, ◌∙◌}
 use Rattle.dq_captures.specs.Captures.{line_feed}
 use Rattle.dq_program.specs.Checks.{limit_text}
 use Rattle.dq_program.proofs.checking.put_limits.Goals as goal

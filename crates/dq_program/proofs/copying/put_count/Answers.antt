@@ -1,4 +1,4 @@
-use Rattle.std.proofs.Common.{◌≡◌, Bool, true, false, Result, Ok, Err, OnOk, refl, rules}
+use Rattle.std.proofs.Common.{◌≡◌, Bool, false, Result, Ok, Err, OnOk, refl, rules}
 use Rattle.std.specs.Result.{is_err}
 use Rattle.dq_program.proofs.Cutting.{AppendsPart-unflushed}
 use Rattle.dq_program.specs.Copies.{copied_line}

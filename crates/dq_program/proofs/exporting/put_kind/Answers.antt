@@ -1,7 +1,7 @@
 use Rattle.std.proofs.Common.{List, OnOk, IfErr, subst, ap, ◌∙◌, map}
 use Rattle.std.specs.Io.KnownBytes.{Appends}
 use Rattle.dq_dataset.specs.Tree.{ElementList}
-use Rattle.dq_program.specs.Searching.{json_lines}
+use Rattle.dq_desk.specs.Lines.{json_lines}
 use Rattle.dq_program.specs.Exports.{CutsLines}
 use Rattle.dq_program.proofs.Exported.{data_set_in, of-records}
 use Rattle.dq_program.proofs.exporting.put_kind.Goals as goal

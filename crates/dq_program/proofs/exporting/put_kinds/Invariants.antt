@@ -1,8 +1,8 @@
 use Rattle.std.proofs.Common.{◌≡◌, take}
 use Rattle.std.specs.Io.KnownBytes.{Appends}
 use Rattle.dq_tables.specs.Rows.{of}
-use Rattle.dq_program.specs.Program.{AreHonest}
-use Rattle.dq_program.specs.Searching.{json_lines}
+use Rattle.dq_desk.specs.Going.{AreHonest}
+use Rattle.dq_desk.specs.Lines.{json_lines}
 use Rattle.dq_program.specs.Exports.{exported}
 use Rattle.dq_program.proofs.exporting.put_kinds.Given as goal
 

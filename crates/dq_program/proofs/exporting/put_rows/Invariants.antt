@@ -1,6 +1,6 @@
 use Rattle.std.proofs.Common.{take, map}
 use Rattle.std.specs.Io.KnownBytes.{Appends}
-use Rattle.dq_program.specs.Searching.{json_lines}
+use Rattle.dq_desk.specs.Lines.{json_lines}
 use Rattle.dq_program.proofs.Exported.{data_set_in}
 use Rattle.dq_program.proofs.exporting.put_rows.Given as goal
 

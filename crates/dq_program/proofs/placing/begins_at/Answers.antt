@@ -1,4 +1,4 @@
-use Rattle.std.proofs.Common.{◌≡◌, ◌-◌, nat_eq, length, take, drop, ap, arith, ◌∙◌, length-drop}
+use Rattle.std.proofs.Common.{◌-◌, nat_eq, length, drop, ap, arith, ◌∙◌, length-drop}
 use Rattle.std.specs.List.{starts_with}
 use Rattle.std.proofs.lemmas.List.{take_all}
 use Rattle.dq_program.specs.Places.{heading}

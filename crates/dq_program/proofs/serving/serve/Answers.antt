@@ -1,7 +1,8 @@
 use Rattle.std.proofs.Common.{IfSome, inr, refl}
 use Rattle.dq_words.specs.Words.{place_asked, callers_of, serving_in}
 use Rattle.dq_program.specs.declared.stop.Stop.{Stop}
-use Rattle.dq_program.specs.Program.{unclosed_store, rows_at, AreHonest}
+use Rattle.dq_program.specs.Program.{unclosed_store, rows_at}
+use Rattle.dq_desk.specs.Going.{AreHonest}
 use Rattle.dq_program.specs.Serving.{turn_count, ServedUpTo}
 use Rattle.dq_program.proofs.Ends.{ends-so}
 use Rattle.dq_program.proofs.Inputs.{if_error}
@@ -57,11 +58,11 @@ pub returns-in_err-serve_by-in-Memory-clause-stops : goal.returns-in_err-serve_b
 returns-in_err-serve_by-in-Memory-clause-stops g c =
     let server = c.in_ok-server-in-Memory.ensures in
     let state = g.Rt.Memory.Tables.state in
-    let IsSo : Stop → Type 0 = λ (why : Stop). AreHonest state → ServedUpTo g.Rt.Wired.Wires.log (g.Rt.Network.may_break c.args.rt.now)
+    let IsSo : Stop → Type 0 = λ (why : Stop). AreHonest state → ServedUpTo g.Rt.Wired.Wires.log g.Rt.Console.Wires.log (g.Rt.Network.may_break c.args.rt.now)
     c.in_ok-server-in-Memory.server.institutions (state c.in_ok-server-in-Memory.server.tables).rows (turn_count c.args.service.turns)
     (callers_of (serving_in c.args.service)) why in
     let IsAlso : Stop → Type 0 = λ (why : Stop). IfSome (rows_at (g.Rt.Stores.stored c.args.rt.now) (place_asked c.args.service.keeper)) (λ rows.
-    ServedUpTo g.Rt.Wired.Wires.log (g.Rt.Network.may_break c.args.rt.now) c.in_ok-config.config rows (turn_count c.args.service.turns)
+    ServedUpTo g.Rt.Wired.Wires.log g.Rt.Console.Wires.log (g.Rt.Network.may_break c.args.rt.now) c.in_ok-config.config rows (turn_count c.args.service.turns)
     (callers_of (serving_in c.args.service)) why) in
     if_error _ c.from_residual-in_err-serve_by-in-Memory.result _ c.from_residual-in_err-serve_by-in-Memory.ensures.1
     (inr (
@@ -75,11 +76,11 @@ pub returns-in_err-filled-in-New-clause-stops : goal.returns-in_err-filled-in-Ne
 returns-in_err-filled-in-New-clause-stops g c =
     let server = c.in_ok-server-in-New.ensures in
     let state = g.Rt.File.Tables.state in
-    let IsSo : Stop → Type 0 = λ (why : Stop). AreHonest state → ServedUpTo g.Rt.Wired.Wires.log (g.Rt.Network.may_break c.args.rt.now)
+    let IsSo : Stop → Type 0 = λ (why : Stop). AreHonest state → ServedUpTo g.Rt.Wired.Wires.log g.Rt.Console.Wires.log (g.Rt.Network.may_break c.args.rt.now)
     c.in_ok-server-in-New.server.institutions (state c.in_ok-server-in-New.server.tables).rows (turn_count c.args.service.turns)
     (callers_of (serving_in c.args.service)) why in
     let IsAlso : Stop → Type 0 = λ (why : Stop). IfSome (rows_at (g.Rt.Stores.stored c.args.rt.now) (place_asked c.args.service.keeper)) (λ rows.
-    ServedUpTo g.Rt.Wired.Wires.log (g.Rt.Network.may_break c.args.rt.now) c.in_ok-config.config rows (turn_count c.args.service.turns)
+    ServedUpTo g.Rt.Wired.Wires.log g.Rt.Console.Wires.log (g.Rt.Network.may_break c.args.rt.now) c.in_ok-config.config rows (turn_count c.args.service.turns)
     (callers_of (serving_in c.args.service)) why) in
     if_error _ c.from_residual-in_err-filled-in-New.result _ c.from_residual-in_err-filled-in-New.ensures.1
     (inr (
@@ -94,11 +95,11 @@ pub returns-in_err-kept-in-Found-clause-stops : goal.returns-in_err-kept-in-Foun
 returns-in_err-kept-in-Found-clause-stops g c =
     let server = c.in_ok-server-in-Found.ensures in
     let state = g.Rt.File.Tables.state in
-    let IsSo : Stop → Type 0 = λ (why : Stop). AreHonest state → ServedUpTo g.Rt.Wired.Wires.log (g.Rt.Network.may_break c.args.rt.now)
+    let IsSo : Stop → Type 0 = λ (why : Stop). AreHonest state → ServedUpTo g.Rt.Wired.Wires.log g.Rt.Console.Wires.log (g.Rt.Network.may_break c.args.rt.now)
     c.in_ok-server-in-Found.server.institutions (state c.in_ok-server-in-Found.server.tables).rows (turn_count c.args.service.turns)
     (callers_of (serving_in c.args.service)) why in
     let IsAlso : Stop → Type 0 = λ (why : Stop). IfSome (rows_at (g.Rt.Stores.stored c.args.rt.now) (place_asked c.args.service.keeper)) (λ rows.
-    ServedUpTo g.Rt.Wired.Wires.log (g.Rt.Network.may_break c.args.rt.now) c.in_ok-config.config rows (turn_count c.args.service.turns)
+    ServedUpTo g.Rt.Wired.Wires.log g.Rt.Console.Wires.log (g.Rt.Network.may_break c.args.rt.now) c.in_ok-config.config rows (turn_count c.args.service.turns)
     (callers_of (serving_in c.args.service)) why) in
     if_error _ c.from_residual-in_err-kept-in-Found.result _ c.from_residual-in_err-kept-in-Found.ensures.1
     (inr (

@@ -4,7 +4,7 @@ use Rattle.dq_core.specs.Standing.{Standing, StandsFor}
 use Rattle.dq_wires.specs.Servings.{Serving}
 use Rattle.dq_words.specs.Words.{callers_of, serving_in}
 use Rattle.dq_program.specs.declared.stop.Stop.{Stop}
-use Rattle.dq_program.specs.Program.{AreHonest}
+use Rattle.dq_desk.specs.Going.{AreHonest}
 use Rattle.dq_program.specs.Serving.{turn_count, rounds_acts, RoundsTell, HaltTells, ServedUpTo}
 use Rattle.dq_program.proofs.Ends.{keeps, unheard-ends, cut-ends}
 use Rattle.dq_program.proofs.Inputs.{if_error}
@@ -24,7 +24,7 @@ returns-in_ok-serve_alone-in-None-clause-served g c = λ honest.
     let same : turner.server.institutions ≡ c.args.server.institutions = ap (λ (s : Standing g.row.T.Denot). s.institutions) start in
     let went = c.in_ok-serve_alone-in-None.ensures.went in
     rw (sym c.callers_at.ensures ∙ ap option_copied c.in-None.is, c.into_tables.ensures, c.into_server.ensures)
-    (service-of g.T.Tables.state rows g.N.Wired.Wires.log wires c.serve_alone.new.wires None c.args.server.institutions went.rounds
+    (service-of g.T.Tables.state rows g.N.Wired.Wires.log g.N.Console.Wires.log wires c.serve_alone.new.wires None c.args.server.institutions went.rounds
     c.calls_are_a_serving.ensures.whole c.servings_are_answered.ensures.replies c.servings_are_answered.ensures.rows begun (honest _) same
     c.of-pace.ensures c.in_ok-wires.ensures.uncalled went.counted went.so went.went)
 
@@ -44,7 +44,7 @@ returns-in_ok-serve_beside-in-Some-clause-served g c = λ honest.
     let told : RoundsTell turner.server.institutions c.in_ok-desk-in-Some.desk.clerk.names.items rows [] went.rounds =
     went.so.tells honest rows log turner.server [] begun in
     rw (sym c.callers_at.ensures ∙ ap option_copied c.in-Some.is, c.into_tables-in-Some.ensures, c.into_server-in-Some.ensures)
-    (service-of g.T.Tables.state rows g.N.Wired.Wires.log wires c.serve_beside.new.reception.wires (Some _) c.args.server.institutions
+    (service-of g.T.Tables.state rows g.N.Wired.Wires.log g.N.Console.Wires.log wires c.serve_beside.new.reception.wires (Some _) c.args.server.institutions
     went.rounds c.calls_are_a_serving.ensures.whole c.servings_are_answered.ensures.replies c.servings_are_answered.ensures.rows begun (honest _)
     same c.of-pace.ensures (rw c.desk_beside.ensures.same c.in_ok-wires.ensures.uncalled) went.counted (
       c.in_ok-desk-in-Some.desk.clerk.wires,
@@ -57,21 +57,21 @@ returns-in_ok-serve_beside-in-Some-clause-served g c = λ honest.
 
 pub returns-in_err-wires-clause-ends : goal.returns-in_err-wires-clause-ends
 returns-in_err-wires-clause-ends g c =
-    let IsSo : Stop → Type 0 = λ (why : Stop). AreHonest g.T.Tables.state → ServedUpTo g.N.Wired.Wires.log (g.N.Network.may_break c.args.network.now)
+    let IsSo : Stop → Type 0 = λ (why : Stop). AreHonest g.T.Tables.state → ServedUpTo g.N.Wired.Wires.log g.N.Console.Wires.log (g.N.Network.may_break c.args.network.now)
     c.args.server.institutions (g.T.Tables.state c.args.server.tables).rows (turn_count c.args.service.turns) (callers_of (serving_in c.args.service)) why in
     if_error _ c.from_residual.result _ c.from_residual.ensures.1
     (unheard-ends _ (g.W.Sink.may_fail c.args.output.now) _ _ c.args.service.port IsSo _ (keeps _) c.in_err-wires.ensures.stops)
 
 pub returns-in_err-desk-in-Some-clause-ends : goal.returns-in_err-desk-in-Some-clause-ends
 returns-in_err-desk-in-Some-clause-ends g c =
-    let IsSo : Stop → Type 0 = λ (why : Stop). AreHonest g.T.Tables.state → ServedUpTo g.N.Wired.Wires.log (g.N.Network.may_break c.args.network.now)
+    let IsSo : Stop → Type 0 = λ (why : Stop). AreHonest g.T.Tables.state → ServedUpTo g.N.Wired.Wires.log g.N.Console.Wires.log (g.N.Network.may_break c.args.network.now)
     c.args.server.institutions (g.T.Tables.state c.args.server.tables).rows (turn_count c.args.service.turns) (callers_of (serving_in c.args.service)) why in
     if_error _ c.from_residual-in_err-desk-in-Some.result _ c.from_residual-in_err-desk-in-Some.ensures.1
     (unheard-ends _ (g.W.Sink.may_fail c.args.output.now) _ _ c.args.service.port IsSo _ (keeps _) c.in_err-desk-in-Some.ensures.stops)
 
 pub returns-in_err-serve_alone-in-None-clause-ends : goal.returns-in_err-serve_alone-in-None-clause-ends
 returns-in_err-serve_alone-in-None-clause-ends g c =
-    let IsSo : Stop → Type 0 = λ (why : Stop). AreHonest g.T.Tables.state → ServedUpTo g.N.Wired.Wires.log (g.N.Network.may_break c.args.network.now)
+    let IsSo : Stop → Type 0 = λ (why : Stop). AreHonest g.T.Tables.state → ServedUpTo g.N.Wired.Wires.log g.N.Console.Wires.log (g.N.Network.may_break c.args.network.now)
     c.args.server.institutions (g.T.Tables.state c.args.server.tables).rows (turn_count c.args.service.turns) (callers_of (serving_in c.args.service)) why in
     let rows = (g.T.Tables.state c.args.server.tables).rows in
     let turner = c.new-turner.result in
@@ -85,12 +85,12 @@ returns-in_err-serve_alone-in-None-clause-ends g c =
     let off = c.in_err-serve_alone-in-None.ensures.cut in
     if_error _ c.from_residual-in_err-serve_alone-in-None.result _ c.from_residual-in_err-serve_alone-in-None.ensures.1
     (cut-ends _ (g.W.Sink.may_fail c.args.output.now) _ _ c.args.service.port IsSo _ _ c.in_ok-put_ready-in-None.ensures.ready off.causes (λ honest. rw (sym c.callers_at.ensures ∙ ap option_copied c.in-None.is)
-    (service-cut g.T.Tables.state rows g.N.Wired.Wires.log wires c.serve_alone.new.wires None c.args.server.institutions
+    (service-cut g.T.Tables.state rows g.N.Wired.Wires.log g.N.Console.Wires.log wires c.serve_alone.new.wires None c.args.server.institutions
     c.servings_are_answered.ensures.replies begun honest same c.of-pace.ensures c.in_ok-wires.ensures.uncalled off off.so)))
 
 pub returns-in_err-serve_beside-in-Some-clause-ends : goal.returns-in_err-serve_beside-in-Some-clause-ends
 returns-in_err-serve_beside-in-Some-clause-ends g c =
-    let IsSo : Stop → Type 0 = λ (why : Stop). AreHonest g.T.Tables.state → ServedUpTo g.N.Wired.Wires.log (g.N.Network.may_break c.args.network.now)
+    let IsSo : Stop → Type 0 = λ (why : Stop). AreHonest g.T.Tables.state → ServedUpTo g.N.Wired.Wires.log g.N.Console.Wires.log (g.N.Network.may_break c.args.network.now)
     c.args.server.institutions (g.T.Tables.state c.args.server.tables).rows (turn_count c.args.service.turns) (callers_of (serving_in c.args.service)) why in
     let rows = (g.T.Tables.state c.args.server.tables).rows in
     let turner = c.new-turner-in-Some.result in
@@ -108,7 +108,7 @@ returns-in_err-serve_beside-in-Some-clause-ends g c =
     λ honest. off.so.tells honest rows log turner.server [] begun in
     if_error _ c.from_residual-in_err-serve_beside-in-Some.result _ c.from_residual-in_err-serve_beside-in-Some.ensures.1
     (cut-ends _ (g.W.Sink.may_fail c.args.output.now) _ _ c.args.service.port IsSo _ _ c.in_ok-put_ready-in-Some.ensures.ready off.causes (λ honest. rw (sym c.callers_at.ensures ∙ ap option_copied c.in-Some.is)
-    (service-cut g.T.Tables.state rows g.N.Wired.Wires.log wires c.serve_beside.new.reception.wires (Some _) c.args.server.institutions
+    (service-cut g.T.Tables.state rows g.N.Wired.Wires.log g.N.Console.Wires.log wires c.serve_beside.new.reception.wires (Some _) c.args.server.institutions
     c.servings_are_answered.ensures.replies begun honest same c.of-pace.ensures (rw c.desk_beside.ensures.same c.in_ok-wires.ensures.uncalled) off (
       c.in_ok-desk-in-Some.desk.clerk.wires,
       c.serve_beside.new.reception.desk.clerk.wires,

@@ -6,9 +6,9 @@ use Rattle.dq_program.proofs.serving.turn_beside.Goals as goal
 pub returns-clause-went : goal.returns-clause-went
 returns-clause-went g c =
     rw (
-      c.rest_with.ensures.same,
+      c.rest_with-rested.ensures.same,
       c.note.ensures,
-      c.rest_with.ensures.beside,
+      c.rest_with-rested.ensures.console,
       c.take_notes-notes.ensures.wires,
       c.take_notes-notes.ensures.callers,
     ) (beside-round g.T.Tables.state {mid = c.turn_told.new.turner} c.calls_are_a_serving.ensures.turns c.in_ok-turn.ensures.went
@@ -23,14 +23,14 @@ pub returns-in_err-turn-clause-cut : goal.returns-in_err-turn-clause-cut
 returns-in_err-turn-clause-cut g c =
     if_error _ c.from_residual-in_err-turn.result _ c.from_residual-in_err-turn.ensures.1
     (cut-console g.T.Tables.state {mid = c.turn_told.new.turner} c.calls_are_a_serving.ensures.turns c.calls_are_a_serving.ensures.whole
-    c.in_err-turn.ensures.cut c.in_err-turn.ensures.stops c.in_ok-turn_told.ensures.went c.in_ok-turn_told.ensures.fault)
+    c.in_err-turn.ensures.cut _ c.in_ok-turn_told.ensures.went c.in_ok-turn_told.ensures.fault)
 
 pub returns-then-is_err-clause-cut : goal.returns-then-is_err-clause-cut
 returns-then-is_err-clause-cut g c =
     rw (
-      c.rest_with.ensures.same,
+      c.rest_with-rested.ensures.same,
       c.note.ensures,
-      c.rest_with.ensures.beside,
+      c.rest_with-rested.ensures.console,
       c.take_notes-notes.ensures.wires,
     ) (cut-after g.T.Tables.state {new = c.turn.new.turner} (beside-cut-whole g.T.Tables.state _) c.calls_are_a_serving.ensures.whole (search rules)
     (beside-round g.T.Tables.state {mid = c.turn_told.new.turner} c.calls_are_a_serving.ensures.turns c.in_ok-turn.ensures.went

@@ -1,0 +1,49 @@
+-- What a log tells of a request: its method, its institution, the path below that without its query, and the status of
+-- its response.
+use Rattle.std.specs.Prelude.{◌≡◌, ◌==◌, ℕ, ◌++◌, Bool, ◌||◌, ◌&&◌, if◌then◌else◌, List, [], ◌∷◌, take, drop, map, position, codes, Option, Some, None}
+use Rattle.std.specs.Char.{is_ascii_graphic, is_ascii_uppercase, is_ascii_digit}
+use Rattle.std.specs.Fmt.{decimal}
+use Rattle.std.specs.List.{list_all}
+use Rattle.dq_list.specs.Lengths.{is_empty}
+use Rattle.dq_web.specs.declared.cutting.Head.{Head}
+use Rattle.dq_web.specs.declared.status.Status.{Status}
+use Rattle.dq_web.specs.Responses.{status_code}
+
+-- an octet that is no graphic character of ASCII is told as a question mark: no request can write lines of the log
+abbrev pub told_octet : ℕ → ℕ
+told_octet octet = if is_ascii_graphic octet then octet else 63
+
+-- octets as they are told, 128 at most, and a hyphen for none
+abbrev pub told_text : List ℕ → List ℕ
+told_text octets = if is_empty octets then codes "-" else map told_octet (take 128 octets)
+
+abbrev pub up_to : Option ℕ → List ℕ → List ℕ
+up_to None octets = octets
+up_to (Some end) octets = take end octets
+
+-- what stands before the query of a target
+abbrev pub path_of : List ℕ → List ℕ
+path_of target = up_to (position (λ octet. octet == 63) target) target
+
+abbrev pub is_of_name : ℕ → Bool
+is_of_name octet = is_ascii_uppercase octet || (is_ascii_digit octet || (octet == 95))
+
+-- the name at the front of a path, behind its first slash and before its second, and what is below it
+abbrev pub named_at : ℕ → List ℕ → Option ℕ → List ℕ × List ℕ
+named_at slash rest None = ([], slash ∷ rest)
+named_at slash rest (Some end) =
+    if (slash == 47) && list_all is_of_name (take end rest) then (take end rest, drop end rest)
+    else ([], slash ∷ rest)
+
+abbrev pub parts_of : List ℕ → List ℕ × List ℕ
+parts_of [] = ([], [])
+parts_of (slash ∷ rest) = named_at slash rest (position (λ octet. octet == 47) rest)
+
+abbrev pub words_text : Head → List ℕ
+words_text head = let parts = parts_of (path_of head.target.now) in
+    told_text head.method.now ++ codes " " ++ told_text parts.0 ++ codes " " ++ told_text parts.1
+
+-- One line more, with the status code of the response (RFC 9110 section 15), and how long it took.
+abbrev pub HasNote : List ℕ → Status → List ℕ → List ℕ → Type 0
+HasNote words status old new = (milliseconds : ℕ)
+    × (new ≡ old ++ (words ++ (codes " " ++ (decimal (status_code status) ++ (codes " ms " ++ (decimal milliseconds ++ codes "\n"))))))

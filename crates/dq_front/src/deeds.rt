@@ -1,0 +1,195 @@
+//! What is done for the octets that came of a connection.
+ghost use Rattle.std.specs.Prelude.{◌≡◌, ℕ, List, map, IfOk};
+ghost use Rattle.dq_web.specs.Answers.{IsReplyTo, IsResponse};
+ghost use Rattle.dq_web.specs.Requests.{IsCutOff, IsRequest};
+ghost use Rattle.dq_web.specs.declared.cutting.Cut.TheVariants as cut;
+ghost use Rattle.dq_front.specs.Deeds.{IsGiven, IsAnswer, IsDeed};
+ghost use Rattle.dq_front.specs.Sites.{limits_of};
+
+use crate::noting::words_of;
+use dq_config::Institution;
+use dq_list::Listed;
+use dq_request::Response;
+use dq_web::{
+    Asked, Counters, Cut, Framing, Guard, Head, HttpRequest, Question, Written, answered, ask,
+    cut_off, document, healthy, judge, misspelled, refused,
+};
+use httpdate::HttpDate;
+use std::alloc::{AllocError, Global};
+
+/// What is done for the octets that came of a connection.
+#[derive(Drop)]
+pub(crate) enum Deed {
+    /// Nothing yet: a request is not whole.
+    Wait,
+    /// The client, whose head is let in, is told to go on.
+    GoOn,
+    /// A response is written, and nothing comes after it.
+    Refuse(Written),
+    /// A request of this extent is answered, the last one if that is said.
+    Answer(Answer),
+}
+
+/// A request that is whole: its words in the log, its extent, whether it is the last one, and its
+/// response, or what it asks of the server.
+#[derive(Drop)]
+pub(crate) struct Answer {
+    pub words: String,
+    pub extent: usize,
+    pub is_last: bool,
+    pub given: Given,
+}
+
+#[derive(Drop)]
+pub(crate) enum Given {
+    Response(Written),
+    Question(Question),
+}
+
+/// What requests are answered by: the keys and the hosts, the names and limits of institutions, and
+/// the counts of what was served.
+#[derive(Drop)]
+pub struct Site {
+    pub(crate) alloc: Global,
+    guard: Guard,
+    institutions: Vec<Institution>,
+    counters: Counters,
+}
+
+/// What counts here of an institution: its name and its limits.
+fn limits_of(alloc: Global, institution: &Institution) -> Result<Institution, AllocError>
+    ensures { IfOk result (λ known. known ≡ limits_of institution.now) }
+{
+    Ok(Institution {
+        name: Listed::copy_of(alloc, institution.name.as_slice())?,
+        routes: Listed::empty(alloc),
+        studies: institution.studies,
+        images: institution.images,
+        entries: institution.entries,
+        steps: institution.steps,
+        associations: institution.associations,
+    })
+}
+
+impl Site {
+    /// The site of institutions, behind a guard.
+    pub fn new(
+        alloc: Global,
+        guard: Guard,
+        institutions: &[Institution],
+    ) -> Result<Self, AllocError>
+        ensures guard { IfOk result (λ site. site.guard ≡ guard) }
+        ensures limits { IfOk result (λ site.
+            site.institutions.items ≡ map limits_of institutions.now) }
+    {
+        let mut known = Vec::new(alloc);
+        for institution in institutions {
+            known.push(limits_of(alloc, institution)?)?;
+        }
+        Ok(Site {
+            alloc,
+            guard,
+            institutions: known,
+            counters: Counters::default(),
+        })
+    }
+
+    /// Takes the counts of what was served until now.
+    pub(crate) fn set_counters(&mut self, counters: Counters)
+        ensures { self.new ≡ record self.old { counters = counters } }
+    {
+        self.counters = counters;
+    }
+
+    /// What is done for octets that came, at a time.
+    pub(crate) fn deed_for(&self, came: &[u8], date: Option<HttpDate>) -> Result<Deed, AllocError>
+        ensures { IfOk result (IsDeed self.now.guard came.now) }
+    {
+        match cut_off(came) {
+            Cut::Unfinished => Ok(Deed::Wait),
+            Cut::Begun(head) => self.deed_for_head(&head, date),
+            Cut::Refused(refusal) => {
+                let framing = Framing {
+                    is_last: true,
+                    is_head: false,
+                    date,
+                };
+                Ok(Deed::Refuse(refused(self.alloc, refusal, framing)?))
+            }
+            Cut::Whole(request) => Ok(Deed::Answer(self.answer_to(&request, date)?)),
+        }
+    }
+
+    /// What is done for a head whose body has not come.
+    fn deed_for_head(&self, head: &Head<'_>, date: Option<HttpDate>) -> Result<Deed, AllocError>
+        ensures { (came : List ℕ) → IsCutOff came (cut.Begun head.now)
+            → IfOk result (IsDeed self.now.guard came) }
+    {
+        let framing = Framing {
+            is_last: true,
+            is_head: head.is_head(),
+            date,
+        };
+        match judge(self.alloc, &self.guard, head)? {
+            Some(refusal) => Ok(Deed::Refuse(refused(self.alloc, refusal, framing)?)),
+            None if head.is_expecting() => Ok(Deed::GoOn),
+            None => Ok(Deed::Wait),
+        }
+    }
+
+    /// What a request is given.
+    fn given_for(&self, request: &HttpRequest<'_>, framing: Framing) -> Result<Given, AllocError>
+        ensures { IfOk result (IsGiven self.now.guard request.now framing) }
+    {
+        let alloc = self.alloc;
+        match ask(alloc, &self.guard, request)? {
+            Asked::Refused(refusal) => Ok(Given::Response(refused(alloc, refusal, framing)?)),
+            Asked::Misspelled(word) => {
+                Ok(Given::Response(misspelled(alloc, word.as_str(), framing)?))
+            }
+            Asked::Document(which) => Ok(Given::Response(document(alloc, which, framing)?)),
+            Asked::Health => Ok(Given::Response(healthy(alloc, framing)?)),
+            Asked::Question(mut question) => {
+                question.framing = framing;
+                Ok(Given::Question(question))
+            }
+        }
+    }
+
+    /// The answer to a request that is whole.
+    fn answer_to(
+        &self,
+        request: &HttpRequest<'_>,
+        date: Option<HttpDate>,
+    ) -> Result<Answer, AllocError>
+        ensures { (came : List ℕ) → IsRequest came request.now
+            → IfOk result (IsAnswer self.now.guard came) }
+    {
+        let is_last = request.head.is_last;
+        let framing = Framing {
+            is_last,
+            is_head: request.head.is_head(),
+            date,
+        };
+        let words = words_of(self.alloc, request)?;
+        Ok(Answer {
+            words,
+            extent: request.extent,
+            is_last,
+            given: self.given_for(request, framing)?,
+        })
+    }
+
+    /// The response of HTTP to a question that is answered so.
+    pub(crate) fn response_to(
+        &self,
+        question: &Question,
+        response: &Response,
+    ) -> Result<Written, AllocError>
+        ensures { IfOk result (IsResponse (IsReplyTo question.now response.now
+            self.now.institutions.items) question.now.framing) }
+    {
+        let institutions = self.institutions.as_slice();
+        answered(self.alloc, question, response, institutions, &self.counters)
+    }
+}

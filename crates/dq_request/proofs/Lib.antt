@@ -1,0 +1,4 @@
+pub mod Asked
+pub mod Matched
+pub mod Taking
+pub mod Words

@@ -1,0 +1,13 @@
+//! What may be asked of the server beside associations, and what it answers. The console and the web front
+//! each spell both in their own way.
+#![tactic(auto)]
+
+mod identifier;
+pub mod laws;
+mod request;
+mod response;
+mod search;
+
+pub use request::Request;
+pub use response::{Cause, Counted, Counts, Response, Uncopied};
+pub use search::{Key, Search, ShownPage, Subject};

@@ -1,0 +1,9 @@
+use Rattle.std.proofs.Common.{ℕ, List, sym, subst, option_copied}
+use Rattle.dq_web.specs.Guards.{IsOpened}
+use Rattle.dq_web.proofs.Orders.{Asks-owner}
+use Rattle.dq_web.proofs.laws.a_question_has_its_key.Goals as goal
+
+pub returns : goal.returns
+returns c guard request question shut asked =
+    let owner = Asks-owner asked.aim.method asked.aim.place asked.aim.query.now request.body.now question.asked asked.asks in
+    shut (subst (λ (name : List ℕ). IsOpened guard.keys name (option_copied request.head.fields.authorization)) (sym owner) asked.opened)
