@@ -57,7 +57,7 @@ has-first p (x ∷ xs) zero d h t = grind (arith)
 has-first p (x ∷ xs) (suc k) d h t = grind (arith, has-first p xs k d)
 
 -- an institution that is listed stands at a place
-listed-place : (institutions : List Institution) (i : Institution) → Contains institutions i
+pub listed-place : (institutions : List Institution) (i : Institution) → Contains institutions i
     → (place : ℕ) × (institution_index institutions i.name ≡ Some place) × (place < length institutions)
 listed-place institutions i k =
     let p : Institution → Bool = λ j. bytes_eq j.name i.name in

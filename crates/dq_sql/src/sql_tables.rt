@@ -197,6 +197,17 @@ impl<S: Alter> Tables for SqlTables<S> {
         noted(&mut self.failed, answer)
     }
 
+    fn rows_after(
+        &mut self,
+        kind: Kind,
+        institution: &[u8],
+        key: &[u8],
+        most: usize,
+    ) -> Result<Listed<Row>, TableFault> {
+        let answer = reading::rows_after(&mut self.conn, self.alloc, kind, institution, key, most);
+        noted(&mut self.failed, answer)
+    }
+
     fn rows_above(
         &mut self,
         kind: Kind,

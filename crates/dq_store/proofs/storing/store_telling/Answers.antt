@@ -9,11 +9,12 @@ use Rattle.dq_vr.specs.StudyRoot.{kept_attributes}
 use Rattle.dq_tables.specs.Rows.{Record, Edit, of}
 use Rattle.dq_tables.specs.Serving.{Serves}
 use Rattle.dq_tables.proofs.Calling.{reads_nothing, serves_read}
+use Rattle.dq_archive.proofs.Adding.{told_nothing}
 use Rattle.dq_store.specs.Storing.{store_outcome}
 use Rattle.dq_store.specs.Views.{instance_of, instance_stored}
 use Rattle.dq_store.proofs.Outcomes.{over}
 use Rattle.dq_store.proofs.Sifted.{octets_over, kept_of_it, stored_large, stored_unread, stored_unnamed, stored_kept}
-use Rattle.dq_store.proofs.storing.store.Goals as goal
+use Rattle.dq_store.proofs.storing.store_telling.Goals as goal
 
 pub returns-in_default-clause-serves : goal.returns-in_default-clause-serves
 returns-in_default-clause-serves g c = λ sent h.
@@ -74,4 +75,19 @@ returns-clause-serves g c = λ sent h.
     c.in-Sifted.is c.in-Kept.is (c.spelling_law.ensures.read c.args.syntax sent.octets) (instance_of c.in-Some.sent) some in
     subst (λ (does : List Record → ℕ × List Edit). Serves (g.T.Tables.state c.args.tables.now)
     (g.T.Tables.state c.store_instance.new.tables) c.args.institution.now.name does
-    c.store_instance.result) (λ i. λ records. same records i) c.store_instance.ensures
+    c.store_instance.result) (λ i. λ records. same records i) c.store_instance.ensures.serves
+
+pub returns-in_default-clause-told : goal.returns-in_default-clause-told
+returns-in_default-clause-told g c = λ honest. told_nothing c.args.institution.now.name (g.T.Tables.state c.args.tables.now).rows c.args.added.now
+
+pub returns-in-Large-clause-told : goal.returns-in-Large-clause-told
+returns-in-Large-clause-told g c = λ honest. told_nothing c.args.institution.now.name (g.T.Tables.state c.args.tables.now).rows c.args.added.now
+
+pub returns-in-Fault-clause-told : goal.returns-in-Fault-clause-told
+returns-in-Fault-clause-told g c = λ honest. told_nothing c.args.institution.now.name (g.T.Tables.state c.args.tables.now).rows c.args.added.now
+
+pub returns-in_default-of-clause-told : goal.returns-in_default-of-clause-told
+returns-in_default-of-clause-told g c = λ honest. told_nothing c.args.institution.now.name (g.T.Tables.state c.args.tables.now).rows c.args.added.now
+
+pub returns-then-not-can_be_written-clause-told : goal.returns-then-not-can_be_written-clause-told
+returns-then-not-can_be_written-clause-told g c = λ honest. told_nothing c.args.institution.now.name (g.T.Tables.state c.args.tables.now).rows c.args.added.now
