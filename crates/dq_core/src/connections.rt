@@ -234,6 +234,7 @@ impl Connections {
         &mut self,
         tables: &mut T,
         number: u64,
+        notes: &mut Notes,
     ) -> Result<Reply, Fault>
         ensures goes { Goes (T.state tables.old) (T.state tables.new) result }
         ensures turned { (world : World) →
@@ -261,7 +262,8 @@ impl Connections {
         let Some(slot) = self.slots.get_mut(place) else {
             return Ok(Reply::Ignored);
         };
-        let octets = slot.send_page(&self.config, &self.additions, tables)?;
+        notes.turn_to(number);
+        let octets = slot.send_page(&self.config, &self.additions, tables, notes)?;
         Ok(octets_reply(number, octets, false))
     }
 

@@ -1,16 +1,17 @@
 //! The responses to a message, a page at a time (PS3.4 sections C.4.1 and K.4.1).
 ghost use Rattle.std.specs.Prelude.{◌≡◌, ◌≤◌, ◌++◌, ◌∷◌, [], List, length, take, true, false, Some, None, option_map, IfOk, OnOk};
 ghost use Rattle.dq_dimse.specs.LentCommands.{command_of_lent};
-ghost use Rattle.dq_core.specs.Services.{is_of_instance, named_instance, response_command, response, pending_status, responses};
+ghost use Rattle.dq_core.specs.Services.{is_of_instance, named_instance, response_command, response, pending_status};
 ghost use Rattle.dq_core.specs.Pages.{responses_octets, rest, without_first, page, cancel_reaction};
 ghost use Rattle.dq_tables.specs.Rows.{Record};
 ghost use Rattle.dq_archive.specs.Pasts.{state_in, records_in};
 ghost use Rattle.dq_core.specs.declared.pages.OpenQuery.{OpenQuery as HeldQuery};
-ghost use Rattle.dq_core.specs.Queries.{at_hand, open_query_of, open_query_in, command_octets, found_left, LooksBack};
+ghost use Rattle.dq_core.specs.Queries.{at_hand, open_query_of, open_query_in, command_octets, LooksBack};
 
 use crate::answers::Answers;
+use crate::notes::{Notes, ServedNote};
 use dq_archive::Past;
-use dq_assoc::{AgreedContext, Agreement, PeerLimit, SopClass};
+use dq_assoc::{AgreedContext, PeerLimit, SopClass};
 use dq_dimse::{Command, LentCommand, append_command, append_data_set, command_field, status};
 use dq_tables::{TableFault, Tables};
 use std::alloc::{AllocError, Global};
@@ -19,8 +20,8 @@ use std::alloc::{AllocError, Global};
 const PAGE_LENGTH: usize = 64;
 
 /// Responses that were not sent: the context and the command of the message that they answer, the
-/// longest PDU that the peer takes, the answers that are left, and how much its institution's log of
-/// additions had as it began.
+/// longest PDU that the peer takes, the answers that are left, how much its institution's log of
+/// additions had as it began, and what is to be noted of it.
 #[derive(Drop)]
 pub(crate) struct OpenQuery {
     pub context: AgreedContext,
@@ -28,6 +29,7 @@ pub(crate) struct OpenQuery {
     pub limit: PeerLimit,
     pub answers: Answers,
     pub since: usize,
+    pub note: Option<ServedNote>,
 }
 
 /// Whether the response to an operation names an instance (PS3.7 sections 9.3.1.2, 10.3.3.2 and
@@ -109,30 +111,6 @@ impl Recipient<'_> {
 }
 
 impl OpenQuery {
-    /// The responses to a message on a context, of which none was sent.
-    pub(crate) fn new(
-        agreement: &Agreement,
-        context: AgreedContext,
-        command: Command,
-        answers: Answers,
-        since: usize,
-    ) -> Self
-        ensures left { (records : List Record) → open_query_of records result ≡ record {
-          context = context.id;
-          limit = agreement.now.limit;
-          left = responses context command (found_left records answers);
-        } }
-        ensures since { result.since ≡ since }
-    {
-        OpenQuery {
-            context,
-            command,
-            limit: agreement.limit,
-            answers,
-            since,
-        }
-    }
-
     fn recipient(&self, alloc: Global) -> Recipient<'_>
         ensures { (result.context ≡ self.now.context)
             × (result.command.now ≡ self.now.command) × (result.limit ≡ self.now.limit) }
@@ -176,7 +154,17 @@ impl OpenQuery {
             out.extend_from_slice(&command)?;
             append_data_set(out, self.context.id, &octets, self.limit.octets())?;
         }
+        self.count(count);
         Ok(())
+    }
+
+    /// Counts answers that were sent, for the note.
+    fn count(&mut self, answers: usize)
+        ensures { self.new ≡ record self.old { note = self.new.note } }
+    {
+        if let Some(note) = &mut self.note {
+            note.answers = note.answers.saturating_add(answers);
+        }
     }
 
     /// Sends the final response, with a status.
@@ -194,6 +182,7 @@ impl OpenQuery {
         mut self,
         archive: &mut Past<'_, T>,
         out: &mut Vec<u8>,
+        notes: &mut Notes,
     ) -> Result<(), TableFault>
         ensures looks { LooksBack T.state archive.old archive.new result }
         ensures sent { (state_in T.state archive.new).honest → OnOk result (out.new.items
@@ -202,7 +191,9 @@ impl OpenQuery {
         self.answers.find(archive, usize::MAX)?;
         let count = self.answers.at_hand();
         self.send_pending(archive.alloc, count, out)?;
-        self.send_final(archive.alloc, self.answers.status(), out)?;
+        let status = self.answers.status();
+        self.send_final(archive.alloc, status, out)?;
+        notes.serve(self.note, status);
         Ok(())
     }
 
@@ -212,6 +203,7 @@ impl OpenQuery {
         mut self,
         archive: &mut Past<'_, T>,
         out: &mut Vec<u8>,
+        notes: &mut Notes,
     ) -> Result<Option<Self>, TableFault>
         ensures looks { LooksBack T.state archive.old archive.new result }
         ensures sent { (state_in T.state archive.new).honest → IfOk result (λ query.
@@ -223,7 +215,7 @@ impl OpenQuery {
     {
         self.answers.find(archive, PAGE_LENGTH + 1)?;
         if self.answers.at_hand() <= PAGE_LENGTH {
-            self.send_rest(archive, out)?;
+            self.send_rest(archive, out, notes)?;
             return Ok(None);
         }
         self.send_pending(archive.alloc, PAGE_LENGTH, out)?;
@@ -238,6 +230,7 @@ impl OpenQuery {
         alloc: Global,
         id: u16,
         out: &mut Vec<u8>,
+        notes: &mut Notes,
     ) -> Result<Option<Self>, AllocError>
         ensures sent { (records : List Record) → IfOk result (λ query.
             let reaction = cancel_reaction id (open_query_of records self) in
@@ -250,6 +243,7 @@ impl OpenQuery {
             return Ok(Some(self));
         }
         self.send_final(alloc, status::CANCEL, out)?;
+        notes.serve(self.note, status::CANCEL);
         Ok(None)
     }
 }

@@ -379,7 +379,10 @@ impl<T: Tables> Server<T> {
                 self.notes.end(number);
                 Ok(self.connections.end(number))
             }
-            Event::Pull(number) => self.connections.answer_pull(&mut self.tables, number),
+            Event::Pull(number) => {
+                self.connections
+                    .answer_pull(&mut self.tables, number, &mut self.notes)
+            }
             Event::Schedule { inst, octets } => schedule_entry(
                 &self.connections.config,
                 inst.as_slice(),

@@ -21,7 +21,7 @@ use crate::answer_queue::AnswerQueue;
 use crate::answers::Answers;
 use crate::dimse_operation::DimseOperation;
 use crate::fault::Fault;
-use crate::notes::Notes;
+use crate::notes::{Notes, ServedNote};
 use crate::pages::OpenQuery;
 use crate::slot::Taken;
 use dq_archive::{Added, Past};
@@ -44,6 +44,13 @@ use std::alloc::{AllocError, Global};
 pub(crate) struct Provider<'a> {
     pub institution: &'a Institution,
     pub agreement: &'a Agreement,
+}
+
+/// The institution that has a connection, and what was added there while searches were open.
+#[derive(Clone, Copy)]
+pub(crate) struct Home<'a> {
+    pub institution: &'a Institution,
+    pub log: &'a [Added],
 }
 
 /// What a connection is answered: octets, and the C-FIND that is open on it afterwards.
@@ -96,7 +103,17 @@ fn identifier(
     Ok(message.identifier(alloc, syntax)?.ok())
 }
 
-impl Provider<'_> {
+impl<'a> Provider<'a> {
+    /// Where its searches look.
+    fn home(self, log: &'a [Added]) -> Home<'a>
+        ensures { (result.institution ≡ self.entry.institution) × (result.log ≡ log.entry) }
+    {
+        Home {
+            institution: self.institution,
+            log,
+        }
+    }
+
     /// Makes the edits of an operation, and answers it. Each operation has its place here.
     fn perform<T: Tables>(
         self,
@@ -178,17 +195,18 @@ impl Provider<'_> {
         self.perform(operation, message, context.syntax, tables, log)
     }
 
-    /// Notes what a message was answered, where notes are kept.
-    fn note(self, context: AgreedContext, message: &Message, answers: &Answers, notes: &mut Notes) {
-        if notes.are_kept() {
-            let identifier = identifier(notes.alloc(), message, context.syntax).unwrap_or(None);
-            notes.serve(
-                context.class.service(),
-                answers.status(),
-                answers.at_hand(),
-                identifier.as_ref(),
-            );
+    /// What is to be noted of a message, where notes are kept.
+    fn note(
+        self,
+        context: AgreedContext,
+        message: &Message,
+        notes: &mut Notes,
+    ) -> Option<ServedNote> {
+        if !notes.are_kept() {
+            return None;
         }
+        let identifier = identifier(notes.alloc(), message, context.syntax).unwrap_or(None);
+        notes.begin(context.class.service(), identifier.as_ref())
     }
 
     /// Serves a message while no C-FIND is open: makes its edits, and sends the first page of its
@@ -237,11 +255,18 @@ impl Provider<'_> {
             });
         }
         let answers = self.outcome(context, &message, tables, log)?;
-        self.note(context, &message, &answers, notes);
-        let since = log.len();
-        let query = OpenQuery::new(self.agreement, context, message.command, answers, since);
+        let note = self.note(context, &message, notes);
+        let query = OpenQuery {
+            context,
+            command: message.command,
+            limit: self.agreement.limit,
+            answers,
+            since: log.len(),
+            note,
+        };
+        let home = self.home(log.as_slice());
         let mut octets = octets;
-        let query = send_page(self.institution, query, tables, log.as_slice(), &mut octets)?;
+        let query = send_page(home, query, tables, &mut octets, notes)?;
         Ok(Answered { octets, query })
     }
 
@@ -288,10 +313,12 @@ impl Provider<'_> {
             return self.serve(octets, message, tables, log, notes);
         };
         if message.command.code == command_field::C_CANCEL {
-            let query = open.cancel(tables.alloc(), message.command.id, &mut octets)?;
+            let id = message.command.id;
+            let query = open.cancel(tables.alloc(), id, &mut octets, notes)?;
             return Ok(Answered { octets, query });
         }
-        send_rest(self.institution, open, tables, log.as_slice(), &mut octets)?;
+        let home = self.home(log.as_slice());
+        send_rest(home, open, tables, &mut octets, notes)?;
         self.serve(octets, message, tables, log, notes)
     }
 
@@ -390,43 +417,44 @@ impl Provider<'_> {
 
 /// Sends all that is left of a C-FIND of an institution, by what was logged since it began.
 fn send_rest<T: Tables>(
-    institution: &Institution,
+    home: Home<'_>,
     query: OpenQuery,
     tables: &mut T,
-    log: &[Added],
     out: &mut Vec<u8>,
+    notes: &mut Notes,
 ) -> Result<(), TableFault>
     ensures reads { Reads (T.state tables.old) (T.state tables.new) result }
     ensures sent { (T.state tables.new).honest → OnOk result (out.new.items ≡ out.old.items
-        ++ rest (open_query_of (records_since institution.now.name (T.state tables.old).rows
-        log.now query.since) query)) }
+        ++ rest (open_query_of (records_since home.entry.institution.now.name
+        (T.state tables.old).rows home.entry.log.now query.since) query)) }
 {
-    let later = since(log, query.since);
-    let mut archive = Past::new(tables, institution, later);
-    query.send_rest(&mut archive, out)
+    let later = since(home.log, query.since);
+    let mut archive = Past::new(tables, home.institution, later);
+    query.send_rest(&mut archive, out, notes)
 }
 
 /// Sends the next page of a C-FIND of an institution, by what was logged since it began.
 pub(crate) fn send_page<T: Tables>(
-    institution: &Institution,
+    home: Home<'_>,
     query: OpenQuery,
     tables: &mut T,
-    log: &[Added],
     out: &mut Vec<u8>,
+    notes: &mut Notes,
 ) -> Result<Option<OpenQuery>, TableFault>
     ensures reads { Reads (T.state tables.old) (T.state tables.new) result }
     ensures sent { (T.state tables.new).honest → IfOk result (λ left.
-        let asked = open_query_of (records_since institution.now.name (T.state tables.old).rows
-        log.now query.since) query in
+        let name = home.entry.institution.now.name in
+        let asked = open_query_of (records_since name (T.state tables.old).rows
+        home.entry.log.now query.since) query in
         (out.new.items ≡ out.old.items ++ (page asked).octets)
-        × (query_then institution.now.name (T.state tables.old).rows log.now left
+        × (query_then name (T.state tables.old).rows home.entry.log.now left
         ≡ (page asked).query)) }
     ensures since { IfOk result (λ left. (q : HeldQuery) → left ≡ Some q
         → q.since ≡ query.since) }
 {
-    let later = since(log, query.since);
-    let mut archive = Past::new(tables, institution, later);
-    let left = query.send_page(&mut archive, out)?;
+    let later = since(home.log, query.since);
+    let mut archive = Past::new(tables, home.institution, later);
+    let left = query.send_page(&mut archive, out, notes)?;
     Ok(left)
 }
 

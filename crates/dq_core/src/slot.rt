@@ -21,7 +21,7 @@ use crate::additions::Additions;
 use crate::fault::Fault;
 use crate::notes::Notes;
 use crate::pages::OpenQuery;
-use crate::service::{Provider, answer_unserved, send_page};
+use crate::service::{Home, Provider, answer_unserved, send_page};
 use dq_archive::Added;
 use dq_assoc::laws::{an_association_after_pdus, pdus_in_parts};
 use dq_assoc::{Agreement, Association, State, Step, Verdict};
@@ -106,6 +106,7 @@ impl Slot {
         config: &Config,
         additions: &Additions,
         tables: &mut T,
+        notes: &mut Notes,
     ) -> Result<Vec<u8>, Fault>
         ensures goes { Goes (T.state tables.old) (T.state tables.new) result }
         ensures same { (T.state tables.new).honest →
@@ -137,8 +138,11 @@ impl Slot {
         let Some(institution) = institution_of(config, &self.home) else {
             return Ok(octets);
         };
-        let log = additions.of(config, institution.name.as_slice());
-        self.query = send_page(institution, query, tables, log, &mut octets)?;
+        let home = Home {
+            institution,
+            log: additions.of(config, institution.name.as_slice()),
+        };
+        self.query = send_page(home, query, tables, &mut octets, notes)?;
         Ok(octets)
     }
 

@@ -11,14 +11,14 @@ returns-clause-sent g c =
     let state = g.T.Tables.state in
     let past = c.new-archive.result in
     let query = c.args.query in
-    let name = c.args.institution.now.name in
+    let name = c.args.home.institution.now.name in
     let rows = (state c.args.tables.now).rows in
-    let log = c.args.log.now in
+    let log = c.args.home.log.now in
     let left = c.in_ok-left.left in
     let out : List ℕ = c.args.out.now.items in
     let records = records_since name rows log query.since in
     let own : records_in state past ≡ records =
-    records_then state c.args.tables.now c.args.institution.now past (drop query.since log) c.new-archive.ensures.tables.now
+    records_then state c.args.tables.now c.args.home.institution.now past (drop query.since log) c.new-archive.ensures.tables.now
     (ap (λ x. x.now) c.new-archive.ensures.institution) (ap (λ x. x.now) c.new-archive.ensures.later ∙ c.since-later.ensures) in
     let sent : (state c.send_page.new.archive.tables.now).honest
     → (c.send_page.new.out.items ≡ out ++ (page (open_query_of records query)).octets)

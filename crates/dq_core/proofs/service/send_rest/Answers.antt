@@ -13,9 +13,9 @@ returns-clause-sent g c =
     let past = c.new-archive.result in
     let query = c.args.query in
     let out : List ℕ = c.args.out.now.items in
-    let records = records_since c.args.institution.now.name (state c.args.tables.now).rows c.args.log.now query.since in
+    let records = records_since c.args.home.institution.now.name (state c.args.tables.now).rows c.args.home.log.now query.since in
     let own : records_in state past ≡ records =
-    records_then state c.args.tables.now c.args.institution.now past (drop query.since c.args.log.now) c.new-archive.ensures.tables.now
+    records_then state c.args.tables.now c.args.home.institution.now past (drop query.since c.args.home.log.now) c.new-archive.ensures.tables.now
     (ap (λ x. x.now) c.new-archive.ensures.institution) (ap (λ x. x.now) c.new-archive.ensures.later ∙ c.since-later.ensures) in
     let sent : (state c.send_rest.new.archive.tables.now).honest
     → OnOk c.send_rest.result (c.send_rest.new.out.items ≡ out ++ rest (open_query_of records query)) =

@@ -1,4 +1,6 @@
 use Rattle.std.proofs.Common.{List, ℕ, ◌++◌, refl, ap, ◌∙◌, arith}
+use Rattle.dq_core.specs.declared.pages.OpenQuery.{OpenQuery}
+use Rattle.dq_core.specs.Queries.{open_query_of}
 use Rattle.dq_core.proofs.Sending.{none-sent, one-sent, so-many, not-none}
 use Rattle.dq_core.proofs.pages.OpenQuery.send_pending.Goals as goal
 
@@ -41,7 +43,7 @@ pub returns-clause-sent : goal.returns-clause-sent
 returns-clause-sent c = λ records. (so-many c.loop.invariant.0 records c.args.count (omega (arith, c.loop.auto.counter-end, c.loop-test.false))).0
 
 pub returns-clause-left : goal.returns-clause-left
-returns-clause-left c = λ records. (so-many c.loop.invariant.0 records c.args.count (omega (arith, c.loop.auto.counter-end, c.loop-test.false))).1
+returns-clause-left c = λ records. ap (open_query_of records) c.count.ensures ∙ (so-many c.loop.invariant.0 records c.args.count (omega (arith, c.loop.auto.counter-end, c.loop-test.false))).1
 
 pub returns-clause-since : goal.returns-clause-since
-returns-clause-since c = c.loop.invariant.0.since
+returns-clause-since c = ap (λ (q : OpenQuery). q.since) c.count.ensures ∙ c.loop.invariant.0.since

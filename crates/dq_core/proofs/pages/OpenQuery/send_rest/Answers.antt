@@ -22,6 +22,6 @@ returns-clause-sent g c = λ h.
     ∙ sym (length-map all (pending_response self.context self.command (optional_of found))) in
     rest-sent (open_query_of records mid) (open_query_of records now) c.at_hand-count.result c.args.out.now.items c.send_pending.new.out.items
     c.send_final.new.out.items counted (c.in_ok-send_pending.ensures.sent records) (c.in_ok-send_pending.ensures.left records)
-    (rw c.status.ensures at (c.in_ok-send_final.ensures records))
+    (rw c.status-status.ensures at (c.in_ok-send_final.ensures records))
     ∙ ap (λ (f : Found). c.args.out.now.items ++ rest (record { context = self.context.id; limit = self.limit; left = responses self.context self.command f }))
     (c.in_ok-find.ensures.stays h)

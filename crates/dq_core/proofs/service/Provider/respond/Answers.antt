@@ -3,12 +3,11 @@ use Rattle.std.proofs.lemmas.Bool.Decides.{nat_tests}
 use Rattle.std.proofs.lemmas.Result.{IfOk-weaker, on_err_weaker}
 use Rattle.dq_dimse.specs.CommandFields.{c_cancel}
 use Rattle.dq_tables.specs.declared.row.Row.{Row}
-use Rattle.dq_archive.specs.declared.later.Added.{Added}
 use Rattle.dq_core.specs.Pages.{rest}
 use Rattle.dq_core.specs.Stepping.{MayLeaveAfter}
 use Rattle.dq_core.specs.Queries.{open_query_of, records_since, query_then}
 use Rattle.dq_core.proofs.Going.{part-left}
-use Rattle.dq_core.proofs.Lookback.{query_since, settled-read}
+use Rattle.dq_core.proofs.Lookback.{query_since, settled-read, goes-after-read}
 use Rattle.dq_core.proofs.Serving.{code_stands, id_stands, did-cancelled, did-after, part-after}
 use Rattle.dq_core.proofs.service.Provider.respond.Goals as goal
 
@@ -39,8 +38,9 @@ returns-clause-does g c = λ h sent on.
     let out = c.args.answered.octets.items in
     let was = c.serve-2.ensures.goes.was_honest h in
     let same = c.send_rest.ensures.reads.same was in
+    let logged : c.home-home.result.log.now ≡ c.args.log.now = ap (λ l. l.now) c.home-home.ensures.1 ∙ c.as_slice.ensures in
     let sent_rest = c.in_ok-send_rest.ensures.sent was
-    ∙ ap (λ (log : List Added). out ++ rest (open_query_of (records_since name rows log asked.since) asked)) c.as_slice.ensures in
+    ∙ (λ i. out ++ rest (open_query_of (records_since (c.home-home.ensures.0 i).now.name rows (logged i) asked.since) asked)) in
     IfOk-weaker c.serve-2.result _ _
     (λ given did. rw c.in-Some.is (did-after c.args.self.institution.now agreement sent (open_query_of (records_since name rows c.args.log.now asked.since) asked) rows
     (state c.serve-2.new.tables).rows out c.send_rest.new.out.items given.octets.items
@@ -67,3 +67,6 @@ returns-clause-stops g c = λ h sent on.
     new.rows IsLeft (code_stands agreement c.args.message sent on false goes_on)
     (part-left IsLeft less (rw (reads.same was) at part))))
     (c.serve-2.ensures.stops h sent on)
+
+pub returns-clause-goes : goal.returns-clause-goes
+returns-clause-goes g c = goes-after-read c.in_ok-send_rest.ensures.reads c.serve-2.ensures.goes

@@ -2,7 +2,7 @@ use Rattle.std.proofs.Common.{◌≡◌, true, false, ◌==◌, List, Some, None
 use Rattle.std.proofs.lemmas.Bool.Decides.{nat_tests}
 use Rattle.dq_dimse.specs.CommandFields.{c_cancel}
 use Rattle.dq_tables.specs.Rows.{Record, of}
-use Rattle.dq_archive.specs.declared.later.Added.{Added}
+use Rattle.dq_core.specs.declared.pages.OpenQuery.{OpenQuery as HeldQuery}
 use Rattle.dq_core.specs.Stepping.{MayLeaveAfter}
 use Rattle.dq_core.specs.Queries.{found_left, open_query_of, records_since, query_then}
 use Rattle.dq_core.proofs.Going.{on-err}
@@ -67,19 +67,28 @@ returns-clause-does g c = λ h sent on.
     let was = reads.goes.was_honest h in
     let mid = (state c.outcome.new.tables).rows in
     let log = c.outcome.new.log in
-    let query = c.new-query.result in
+    let answers = c.in_ok-answers.answers in
+    let query : HeldQuery = record {
+      context = c.in-Some.context;
+      command = c.args.message.command;
+      limit = agreement.limit;
+      answers = answers;
+      since = c.len.result;
+      note = c.note-note.result;
+    } in
+    let home = c.home-home.result in
+    let own = c.home-home.ensures.0 in
+    let logged : home.log.now ≡ log = ap (λ l. l.now) c.home-home.ensures.1 ∙ c.as_slice.ensures in
+    let at = records_since home.institution.now.name mid home.log.now query.since in
+    let now : at ≡ of name mid = (λ i. records_since (own i).now.name mid (logged i) (c.len.ensures i)) ∙ records_now name mid log in
     let sent_page = c.in_ok-query.ensures.sent h in
-    let now : records_since name mid log query.since ≡ of name mid =
-    ap (records_since name mid log) (c.new-query.ensures.since ∙ c.len-since.ensures) ∙ records_now name mid log in
-    let at = records_since name mid c.as_slice.result.now query.since in
-    let at_is : at ≡ of name mid = ap (λ (l : List Added). records_since name mid l query.since) c.as_slice.ensures ∙ now in
     did-served institution agreement sent c.in-Some.context
     (context_stands agreement c.args.message sent on (Some c.in-Some.context) found)
     (state c.args.tables.now).rows (state c.send_page.new.tables).rows c.args.octets.items c.send_page.new.out.items
-    (found_left (of name mid) c.in_ok-answers.answers)
+    (found_left (of name mid) answers)
     (open_query_of at query) (query_then name (state c.send_page.new.tables).rows log c.in_ok-query.query)
     (code_stands agreement c.args.message sent on false goes_on) (serves.answered was) (reads.same h ∙ serves.done was)
-    (unsent_stands agreement c.args.message sent on c.in-Some.context (found_left (of name mid) c.in_ok-answers.answers) (open_query_of at query)
-    (ap (λ (rs : List Record). open_query_of rs query) at_is ∙ c.new-query.ensures.left (of name mid)))
+    (unsent_stands agreement c.args.message sent on c.in-Some.context (found_left (of name mid) answers) (open_query_of at query)
+    (ap (λ (rs : List Record). open_query_of rs query) now))
     sent_page.0
-    ((λ i. query_then name (reads.same h i) (sym c.as_slice.ensures i) c.in_ok-query.query) ∙ sent_page.1)
+    ((λ i. query_then (sym own i).now.name (reads.same h i) (sym logged i) c.in_ok-query.query) ∙ sent_page.1)

@@ -16,11 +16,11 @@ returns-clause-page g c = λ h begun.
     let home = c.args.self.now.home in
     let query = c.in-Some.query in
     let institution = c.in-Some-institution_of.institution.now in
-    let log = c.of-log.result.now in
+    let log = c.of.result.now in
     let is : c.args.self.now.query ≡ Some query = sym c.take.ensures.value ∙ c.in-Some.is in
     let asked = open_query_of (records_since institution.name rows log query.since) query in
     let same = pulled-at config rows logs home institution query log (sym c.institution_of.ensures ∙ ap option_copied c.in-Some-institution_of.is)
-    (c.of-log.ensures ∙ ap (log_of config logs) c.as_slice.ensures) (subst (IsBegunAt config logs home) is begun) (Some query) in
+    (c.of.ensures ∙ ap (log_of config logs) c.as_slice.ensures) (subst (IsBegunAt config logs home) is begun) (Some query) in
     (c.in_ok-self.ensures.sent h).0 ∙ ap (λ (xs : List ℕ). xs ++ (page asked).octets) c.new-octets.ensures.items
     ∙ ap (λ (o : Option OpenQuery). (next_page o).octets) (sym same)
     ∙ ap (λ (o : Option HeldQuery). (next_page (query_at config rows logs home o)).octets) (sym is)
@@ -33,11 +33,11 @@ returns-clause-left g c = λ h begun.
     let home = c.args.self.now.home in
     let query = c.in-Some.query in
     let institution = c.in-Some-institution_of.institution.now in
-    let log = c.of-log.result.now in
+    let log = c.of.result.now in
     let is : c.args.self.now.query ≡ Some query = sym c.take.ensures.value ∙ c.in-Some.is in
     let left = c.in_ok-self.field-0 in
     let same = pulled-at config rows logs home institution query log (sym c.institution_of.ensures ∙ ap option_copied c.in-Some-institution_of.is)
-    (c.of-log.ensures ∙ ap (log_of config logs) c.as_slice.ensures) (subst (IsBegunAt config logs home) is begun) in
+    (c.of.ensures ∙ ap (log_of config logs) c.as_slice.ensures) (subst (IsBegunAt config logs home) is begun) in
     same left ∙ (c.in_ok-self.ensures.sent h).1
     ∙ ap (λ (o : Option OpenQuery). (next_page o).query) (sym (same (Some query)))
     ∙ ap (λ (o : Option HeldQuery). (next_page (query_at config rows logs home o)).query) (sym is)
