@@ -93,11 +93,3 @@ module _ (institutions : List Institution) (rows : List Row) (logs : List (List 
       let same : i ≡ begun.1 = cc in
       let name : home ≡ i.name = sym begun.3 ∙ ap (λ (x : Institution). x.name) (sym same) in
       (λ k. query_then (name k) rows (log_of institutions logs (name k)) left) ∙ ap (λ (l : List Added). query_then i.name rows l left) (sym is)
-
-  -- what is left of it began as it did
-  pub begun-on : (home : Option (List ℕ)) (query : HeldQuery) (left : Option HeldQuery) → ((q : HeldQuery) → left ≡ Some q → q.since ≡ query.since)
-      → IsBegunAt institutions logs home (Some query) → IsBegunAt institutions logs home left
-  begun-on home query None same begun = tt
-  begun-on None query (Some q) same begun = absurd begun
-  begun-on (Some home) query (Some q) same begun =
-      (subst (λ (n : ℕ). n ≤ length (log_of institutions logs home)) (sym (same q refl)) begun.0, begun.1, begun.2, begun.3)
