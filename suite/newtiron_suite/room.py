@@ -32,15 +32,15 @@ class Room:
     ENTERED = ["--mount", "--net", "--root", "--wd"]
     SCRIPT = """set -e
         mount -t tmpfs room "$1"
-        mkdir "$1/upper" "$1/work" "$1/root"
-        mount -t overlay -o "lowerdir=/,upperdir=$1/upper,workdir=$1/work" room "$1/root"
-        mount --rbind /dev "$1/root/dev"
-        mount --rbind /proc "$1/root/proc"
-        mount -t tmpfs -o mode=755 run "$1/root/run"
-        exec chroot "$1/root" sh -c 'echo made; exec cat'"""
-    # what stands in place of systemd's commands, and where it notes how they are called
-    ASKED = "/tmp/asked"
-    STAND_IN = f'#!/bin/sh\necho "${{0##*/}} $*" >> {ASKED}\n'
+        cd "$1"
+        mkdir upper work merged
+        mount -t overlay -o "lowerdir=/,upperdir=$1/upper,workdir=$1/work" room merged
+        for shared in dev proc; do mount --rbind "/$shared" "merged/$shared"; done
+        mount -t tmpfs -o mode=755 run merged/run
+        exec chroot merged sh -c 'echo made; exec cat'"""
+    # what stands in place of systemd's commands, and notes beside them how they are called
+    ASKED = "usr/bin/asked"
+    STAND_IN = '#!/bin/sh\necho "${0##*/} $*" >> "${0%/*}/asked"\n'
     # brings the loopback interface up (SIOCSIFFLAGS of netdevice(7))
     LOOPBACK = ("import fcntl, socket, struct; fcntl.ioctl(socket.socket(), 0x8914, "
                 "struct.pack('16sh14x', b'lo', 1))")

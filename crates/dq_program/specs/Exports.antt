@@ -10,8 +10,8 @@ use Rattle.dq_tables.specs.Finding.{records_of}
 use Rattle.dq_tables.specs.Records.{data_set_of}
 use Rattle.dq_tables.specs.Rows.{Record, of}
 use Rattle.dq_captures.specs.Surroundings.{AppendsPart}
-use Rattle.dq_words.specs.declared.words.RowKind.{RowKind}
-use Rattle.dq_words.specs.declared.words.RowKind.TheVariants as named
+use Rattle.dq_words.specs.declared.job.RowKind.{RowKind}
+use Rattle.dq_words.specs.declared.job.RowKind.TheVariants as named
 use Rattle.dq_words.specs.Words.{Exporting}
 use Rattle.dq_program.specs.declared.stop.Stop.{Stop}
 use Rattle.dq_program.specs.declared.stop.Stop.TheVariants as stop

@@ -32,8 +32,8 @@ use Rattle.dq_captures.specs.Reports.{names_of, report_text}
 use Rattle.dq_captures.specs.Surroundings.{AppendsPart, BreaksOff}
 use Rattle.dq_program.specs.declared.stores.Unkept.{Unkept}
 use Rattle.dq_program.specs.declared.stores.Unkept.TheVariants as unkept
-use Rattle.dq_words.specs.declared.words.Task.{Task}
-use Rattle.dq_words.specs.declared.words.Task.TheVariants.{Replay, Report}
+use Rattle.dq_words.specs.declared.job.Task.{Task}
+use Rattle.dq_words.specs.declared.job.Task.TheVariants.{Replay, Report}
 use Rattle.dq_words.specs.Words.{Request, RowsPlace, InMemory, InNewStore, InStore}
 use Rattle.dq_tables.specs.declared.row.Row.{Row}
 use Rattle.dq_wires.specs.declared.fault.TurnFault.{TurnFault}

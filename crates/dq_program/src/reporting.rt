@@ -4,7 +4,7 @@ ghost use Rattle.std.specs.Io.KnownBytes.{Appends};
 ghost use Rattle.dq_core.specs.declared.fault.Fault.{Fault};
 ghost use Rattle.dq_core.specs.Histories.{is_well_formed_history};
 ghost use Rattle.dq_core.specs.Shared.{world_after};
-ghost use Rattle.dq_words.specs.declared.words.Task.TheVariants.{Report};
+ghost use Rattle.dq_words.specs.declared.job.Task.TheVariants.{Report};
 ghost use Rattle.dq_program.specs.Program.{text_of, Breaks, EndsTask};
 ghost use Rattle.dq_desk.specs.Going.{AreHonest};
 ghost use Rattle.dq_captures.specs.Reports.{names_of, report_text};

@@ -14,13 +14,6 @@ use Rattle.dq_web.specs.Asking.{IsMethod, owner_of, words_in, IsSearchAt, Search
 use Rattle.dq_web.specs.Places.{IsPath, beneath}
 use Rattle.dq_web.proofs.Taking.{TakesWords-institution}
 
--- where GET searches, it asks for the search
-pub Looking-search : (place : Place) (query : List ℕ) (search start : Search) → IsSearchAt place start
-    → TakesWords (words_in query) start search → Looking place query (ask.Search search)
-Looking-search (Counts name) query search start at takes = absurd at
-Looking-search Metrics query search start at takes = absurd at
-Looking-search place query search start at takes = (start, at, takes)
-
 -- a search is of the institution whose key opens its place
 IsSearchAt-owner : (place : Place) (start : Search) → IsSearchAt place start → start.institution ≡ owner_of place
 IsSearchAt-owner (Studies name) start at = ap (λ (it : Search). it.institution) at

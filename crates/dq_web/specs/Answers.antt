@@ -22,7 +22,9 @@ use Rattle.dq_web.specs.declared.asking.Document.TheVariants as document
 use Rattle.dq_web.specs.declared.asking.Question.{Question}
 use Rattle.dq_web.specs.declared.asking.Wish.{Wish}
 use Rattle.dq_web.specs.declared.answering.TheConstants.{STUDIES, SERIES, IMAGES, ENTRIES, STEPS, LIMIT, CLOSE}
-use Rattle.dq_web.specs.declared.page.TheConstants.{INDEX, STYLE, SCRIPT}
+use Rattle.dq_web.specs.declared.page.index.TheConstants.{INDEX}
+use Rattle.dq_web.specs.declared.page.script.TheConstants.{SCRIPT}
+use Rattle.dq_web.specs.declared.page.style.TheConstants.{STYLE}
 use Rattle.dq_web.specs.declared.refusal.Refusal.{Refusal}
 use Rattle.dq_web.specs.declared.replies.Framing.{Framing}
 use Rattle.dq_web.specs.declared.replies.Kind.{Kind}

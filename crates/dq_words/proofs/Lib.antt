@@ -1,3 +1,3 @@
 pub mod Telling
 pub mod Asking
-pub mod Options
+pub mod Added

@@ -4,8 +4,8 @@ use Rattle.std.specs.Option.{option_map_or}
 use Rattle.std.specs.Str.{bytes_eq}
 use Rattle.clap.specs.Words.{App, Row, Rule, Text, all_of, first_of, new_app, new_rule, with_rule, with_subcommand}
 use Rattle.clap.specs.declared.builder.action.ArgAction.TheVariants.{Append, SetTrue}
-use Rattle.dq_words.specs.declared.words.Task.{Task}
-use Rattle.dq_words.specs.declared.words.Task.TheVariants.{Replay, Report}
+use Rattle.dq_words.specs.declared.job.Task.{Task}
+use Rattle.dq_words.specs.declared.job.Task.TheVariants.{Replay, Report}
 
 -- an option that takes a value
 abbrev pub value_rule : Text → Rule

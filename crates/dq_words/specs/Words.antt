@@ -6,20 +6,20 @@ use Rattle.std.specs.Str.{all_ascii_digits, bytes_eq}
 use Rattle.std.specs.Str.Parse.{digits_value}
 use Rattle.clap.specs.Words.{Kinds, Row, Text, fault_of, subcommand_of}
 use Rattle.dq_words.specs.Clap.{command, value_in, values_in, is_given, is_subcommand, task_in}
-use Rattle.dq_words.specs.declared.words.Asked.{Asked}
-use Rattle.dq_words.specs.declared.words.Copying.{Copying}
-use Rattle.dq_words.specs.declared.words.Export.{Export}
-use Rattle.dq_words.specs.declared.words.Inspection.{Inspection}
-use Rattle.dq_words.specs.declared.words.Job.{Job}
-use Rattle.dq_words.specs.declared.words.Job.TheVariants as job
-use Rattle.dq_words.specs.declared.words.Keeper.{Keeper}
-use Rattle.dq_words.specs.declared.words.Keeper.TheVariants as keeper
-use Rattle.dq_words.specs.declared.words.Migration.{Migration}
-use Rattle.dq_words.specs.declared.words.RowKind.{RowKind}
-use Rattle.dq_words.specs.declared.words.RowKind.TheVariants.{Studies, Series, Images, Worklist, Steps}
-use Rattle.dq_words.specs.declared.words.Service.{Service}
-use Rattle.dq_words.specs.declared.words.Task.{Task}
-use Rattle.dq_words.specs.declared.words.Web.{Web}
+use Rattle.dq_words.specs.declared.job.Asked.{Asked}
+use Rattle.dq_words.specs.declared.job.Copying.{Copying}
+use Rattle.dq_words.specs.declared.job.Export.{Export}
+use Rattle.dq_words.specs.declared.job.Inspection.{Inspection}
+use Rattle.dq_words.specs.declared.job.Job.{Job}
+use Rattle.dq_words.specs.declared.job.Job.TheVariants as job
+use Rattle.dq_words.specs.declared.job.Keeper.{Keeper}
+use Rattle.dq_words.specs.declared.job.Keeper.TheVariants as keeper
+use Rattle.dq_words.specs.declared.job.Migration.{Migration}
+use Rattle.dq_words.specs.declared.job.RowKind.{RowKind}
+use Rattle.dq_words.specs.declared.job.RowKind.TheVariants.{Studies, Series, Images, Worklist, Steps}
+use Rattle.dq_words.specs.declared.job.Service.{Service}
+use Rattle.dq_words.specs.declared.job.Task.{Task}
+use Rattle.dq_words.specs.declared.job.Web.{Web}
 
 -- the program's own name, with which a command line begins
 abbrev pub program_name : List ℕ
