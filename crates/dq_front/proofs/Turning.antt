@@ -1,6 +1,7 @@
 -- How the turns of all connections went, one after the other.
-use Rattle.std.proofs.Common.{◌≡◌, ◌<◌, ◌≤◌, ◌+◌, ◌++◌, ◌∷◌, ◌∙◌, ℕ, List, [], length, length-append, append_assoc, append-nil, get_or, set, inl, inr, arith, refl, sym, ap}
+use Rattle.std.proofs.Common.{◌≡◌, ◌<◌, ◌≤◌, ◌+◌, ◌++◌, ◌∷◌, ◌∙◌, ℕ, List, [], Option, length, length-append, append_assoc, append-nil, get_or, set, inl, inr, arith, refl, sym, ap}
 use Rattle.std.specs.List.{remove}
+use Rattle.std.specs.declared.net.socket_addr.SocketAddr.{SocketAddr}
 use Rattle.dq_wires.proofs.Rounding.{get-at, set-at, remove-at}
 use Rattle.dq_web.specs.declared.guard.Guard.{Guard}
 use Rattle.dq_front.specs.declared.visitor.Visitor.{Visitor}
@@ -15,8 +16,8 @@ new-both (first ∷ came) more are news = (are.0, new-both came more are.1 news)
 pub lets_none : (old : List Visitor) → LetsIn old old
 lets_none old = ([], tt, sym (append-nil old))
 
-pub lets_one : (old new : List Visitor) (place : ℕ) (visitor : Visitor) → IsNew place visitor → new ≡ old ++ visitor ∷ [] → LetsIn old new
-lets_one old new place visitor is held = (visitor ∷ [], ((place, is), tt), held)
+pub lets_one : (old new : List Visitor) (place : ℕ) (peer : Option SocketAddr) (visitor : Visitor) → IsNew place peer visitor → new ≡ old ++ visitor ∷ [] → LetsIn old new
+lets_one old new place peer visitor is held = (visitor ∷ [], ((place, peer, is), tt), held)
 
 pub lets_then : (old mid new : List Visitor) → LetsIn old mid → LetsIn mid new → LetsIn old new
 lets_then old mid new (came, are, is) (more, news, held) = (
@@ -54,18 +55,7 @@ pub record TurnsSo (guard : Guard) (all now : List Visitor) (at : ℕ) : Type 0 
   pub place : at ≡ length kept
   pub turned : AllTurn guard done kept
 
-pub turns-begin : (guard : Guard) (all : List Visitor) → TurnsSo guard all all 0
-turns-begin guard all =
-    record { done = []; kept = []; others = all; were = refl; holds = refl; place = refl; turned = refl }
-
 module _ {guard : Guard} {all now : List Visitor} {at : ℕ} (so : TurnsSo guard all now at) where
-  pub turns-end : length now ≤ at → AllTurn guard all now
-  turns-end h = ends so.others so.were so.holds where
-    ends : (others : List Visitor) → all ≡ so.done ++ others → now ≡ so.kept ++ others → AllTurn guard all now
-    ends [] were holds = rw (were ∙ append-nil so.done, holds ∙ append-nil so.kept) so.turned
-    ends (visitor ∷ others) were holds =
-        absurd (omega (arith, so.place, h, ap length holds, length-append so.kept (visitor ∷ others)))
-
   module _ (within : at < length now) (visitor : Visitor) (found : visitor ≡ get_or now at visitor) where
     pub turns-kept : (next : Visitor) → Turns guard visitor next → TurnsSo guard all (set now at next) (at + 1)
     turns-kept next turns = by so.others so.were so.holds where

@@ -59,6 +59,6 @@ abbrev pub IsDeed : Guard → List ℕ → Deed → Type 0
 IsDeed guard came deed.Wait =
     IsCutOff came cut.Unfinished ⊎ ((head : Head) × IsAwaited guard came head)
 IsDeed guard came deed.GoOn = (head : Head) × IsAwaited guard came head × IsTrue (is_expecting head)
-IsDeed guard came (deed.Refuse written) = (refusal : Refusal) × (framing : Framing)
+IsDeed guard came (deed.Refuse words written) = (refusal : Refusal) × (framing : Framing)
     × (framing.is_last ≡ true) × IsRefusal refusal framing written
 IsDeed guard came (deed.Answer answer) = IsAnswer guard came answer

@@ -1,9 +1,11 @@
--- What a log tells of a request: its method, its institution, the path below that without its query, and the status of
--- its response.
+-- What a log tells of a request: the address that it came from, its method, its institution, the path below that
+-- without its query, and the status of its response.
 use Rattle.std.specs.Prelude.{◌≡◌, ◌==◌, ℕ, ◌++◌, Bool, ◌||◌, ◌&&◌, if◌then◌else◌, List, [], ◌∷◌, take, drop, map, position, codes, Option, Some, None}
 use Rattle.std.specs.Char.{is_ascii_graphic, is_ascii_uppercase, is_ascii_digit}
 use Rattle.std.specs.Fmt.{decimal}
 use Rattle.std.specs.List.{list_all}
+use Rattle.std.specs.Net.Text.{socket_text}
+use Rattle.std.specs.declared.net.socket_addr.SocketAddr.{SocketAddr}
 use Rattle.dq_list.specs.Lengths.{is_empty}
 use Rattle.dq_web.specs.declared.cutting.Head.{Head}
 use Rattle.dq_web.specs.declared.status.Status.{Status}
@@ -43,7 +45,12 @@ abbrev pub words_text : Head → List ℕ
 words_text head = let parts = parts_of (path_of head.target.now) in
     told_text head.method.now ++ codes " " ++ told_text parts.0 ++ codes " " ++ told_text parts.1
 
+-- the address of a peer, and a hyphen where it is not known
+abbrev pub peer_text : Option SocketAddr → List ℕ
+peer_text None = codes "-"
+peer_text (Some peer) = socket_text peer
+
 -- One line more, with the status code of the response (RFC 9110 section 15), and how long it took.
-abbrev pub HasNote : List ℕ → Status → List ℕ → List ℕ → Type 0
-HasNote words status old new = (milliseconds : ℕ)
-    × (new ≡ old ++ (words ++ (codes " " ++ (decimal (status_code status) ++ (codes " ms " ++ (decimal milliseconds ++ codes "\n"))))))
+abbrev pub HasNote : Option SocketAddr → List ℕ → Status → List ℕ → List ℕ → Type 0
+HasNote peer words status old new = (milliseconds : ℕ)
+    × (new ≡ old ++ (peer_text peer ++ (codes " " ++ (words ++ (codes " " ++ (decimal (status_code status) ++ (codes " ms " ++ (decimal milliseconds ++ codes "\n"))))))))

@@ -1,6 +1,7 @@
 -- What a connection of the web front reads and writes.
 use Rattle.std.specs.Prelude.{◌≡◌, ◌⊎◌, ◌++◌, ◌&&◌, ℕ, ◌<◌, Bool, true, false, not, is_some, IsTrue, if◌then◌else◌, List, [], length, drop, Option, Some, None, Result}
 use Rattle.std.specs.Borrow.{Bor}
+use Rattle.std.specs.declared.net.socket_addr.SocketAddr.{SocketAddr}
 use Rattle.dq_config.specs.declared.config.Institution.{Institution}
 use Rattle.dq_list.specs.Lengths.{is_empty}
 use Rattle.dq_request.specs.declared.request.Request.{Request}
@@ -23,9 +24,10 @@ use Rattle.dq_front.specs.declared.visitor.Stage.TheVariants as stage
 use Rattle.dq_front.specs.declared.visitor.Visitor.{Visitor}
 use Rattle.dq_front.specs.Deeds.{IsDeed}
 
--- one that has just come, and of which nothing is read
-pub record IsNew (place : ℕ) (visitor : Visitor) : Type 0 where
+-- one that has just come from a peer, and of which nothing is read
+pub record IsNew (place : ℕ) (peer : Option SocketAddr) (visitor : Visitor) : Type 0 where
   pub at : visitor.place ≡ place
+  pub from : visitor.peer ≡ peer
   pub came : visitor.came.items ≡ []
   pub stage : visitor.stage ≡ stage.Reading
   pub last : visitor.is_last ≡ false
@@ -132,7 +134,7 @@ abbrev pub Takes : Deed → Visitor → Visitor → Type 0
 Takes deed.Wait old new = new ≡ seen old
 Takes deed.GoOn old new = new ≡ (if old.is_continued then seen old
     else record (with_response (seen old) CONTINUE.now) { is_continued = true })
-Takes (deed.Refuse written) old new =
+Takes (deed.Refuse words written) old new =
     new ≡ record (with_response (seen old) written.octets.items) { is_last = true }
 Takes (deed.Answer answer) old new = (mid : Visitor) × IsTakenOff answer.extent old mid
     × (new ≡ record mid { stage = stage_of answer.given; is_last = answer.is_last; words = answer.words; begun = new.begun })

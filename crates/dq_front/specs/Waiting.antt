@@ -1,6 +1,7 @@
 -- Which request is answered next.
 use Rattle.std.specs.Prelude.{◌≡◌, ◌⊎◌, ℕ, ◌+◌, ◌++◌, List, [], ◌∷◌, take, drop, position, slice_get, slice_set, Option, Some, None}
 use Rattle.std.specs.Option.{option_and_then}
+use Rattle.std.specs.declared.net.socket_addr.SocketAddr.{SocketAddr}
 use Rattle.dq_config.specs.declared.config.Institution.{Institution}
 use Rattle.dq_request.specs.declared.request.Request.{Request}
 use Rattle.dq_request.specs.declared.response.Response.{Response}
@@ -50,7 +51,7 @@ AllTurn guard (visitor ∷ others) new = AllTurn guard others new
 
 abbrev pub AreNew : List Visitor → Type 0
 AreNew [] = Unit {0}
-AreNew (visitor ∷ others) = ((place : ℕ) × IsNew place visitor) × AreNew others
+AreNew (visitor ∷ others) = ((place : ℕ) × (peer : Option SocketAddr) × IsNew place peer visitor) × AreNew others
 
 -- connections are let in behind the others
 abbrev pub LetsIn : List Visitor → List Visitor → Type 0

@@ -6,7 +6,7 @@ ghost use Rattle.dq_web.specs.declared.cutting.Cut.TheVariants as cut;
 ghost use Rattle.dq_front.specs.Deeds.{IsGiven, IsAnswer, IsDeed};
 ghost use Rattle.dq_front.specs.Sites.{limits_of};
 
-use crate::noting::words_of;
+use crate::noting::{UNREADABLE, words_of};
 use dq_config::Institution;
 use dq_list::Listed;
 use dq_request::Response;
@@ -24,8 +24,8 @@ pub(crate) enum Deed {
     Wait,
     /// The client, whose head is let in, is told to go on.
     GoOn,
-    /// A response is written, and nothing comes after it.
-    Refuse(Written),
+    /// A response is written, and nothing comes after it: the words of the request in the log, and it.
+    Refuse(String, Written),
     /// A request of this extent is answered, the last one if that is said.
     Answer(Answer),
 }
@@ -114,7 +114,8 @@ impl Site {
                     is_head: false,
                     date,
                 };
-                Ok(Deed::Refuse(refused(self.alloc, refusal, framing)?))
+                let words = String::from_str(self.alloc, UNREADABLE)?;
+                Ok(Deed::Refuse(words, refused(self.alloc, refusal, framing)?))
             }
             Cut::Whole(request) => Ok(Deed::Answer(self.answer_to(&request, date)?)),
         }
@@ -131,7 +132,10 @@ impl Site {
             date,
         };
         match judge(self.alloc, &self.guard, head)? {
-            Some(refusal) => Ok(Deed::Refuse(refused(self.alloc, refusal, framing)?)),
+            Some(refusal) => {
+                let words = words_of(self.alloc, head)?;
+                Ok(Deed::Refuse(words, refused(self.alloc, refusal, framing)?))
+            }
             None if head.is_expecting() => Ok(Deed::GoOn),
             None => Ok(Deed::Wait),
         }
@@ -171,7 +175,7 @@ impl Site {
             is_head: request.head.is_head(),
             date,
         };
-        let words = words_of(self.alloc, request)?;
+        let words = words_of(self.alloc, &request.head)?;
         Ok(Answer {
             words,
             extent: request.extent,

@@ -9,7 +9,7 @@ use crate::noting::Notes;
 use crate::visitor::Visitor;
 use dq_request::{Request, Response};
 use dq_web::Counters;
-use dq_wires::{READ_MOST, Wires};
+use dq_wires::{GivesUp, READ_MOST, Wires};
 use std::alloc::AllocError;
 
 /// The most connections at a time.
@@ -26,7 +26,7 @@ pub struct Front<W> {
     buffer: Vec<u8>,
 }
 
-impl<W: Wires + Drop> Front<W> {
+impl<W: Wires + GivesUp + Drop> Front<W> {
     /// The front of a site over wires.
     pub fn new(rt: &HostRuntime, wires: W, site: Site) -> Result<Self, AllocError>
         ensures wires { IfOk result (λ front. front.wires ≡ wires) }
@@ -132,7 +132,11 @@ impl<W: Wires + Drop> Front<W> {
         ensures came { LetsIn self.old.visitors.items self.new.visitors.items }
         ensures site { self.new.site ≡ self.old.site }
     {
-        match self.visitors.push(Visitor::new(self.site.alloc, place)) {
+        let peer = self.wires.peer(place);
+        match self
+            .visitors
+            .push(Visitor::new(self.site.alloc, place, peer))
+        {
             Ok(()) => {}
             Err(_) => {
                 let _ = self.wires.shut(place);

@@ -1,12 +1,13 @@
 //! What a log tells of a request.
 ghost use Rattle.std.specs.Prelude.{◌≡◌, ◌++◌, ◌==◌, [], position, string_bytes, take, IfOk, OnOk};
 ghost use Rattle.std.specs.List.{list_all};
-ghost use Rattle.dq_front.specs.Notes.{told_octet, told_text, is_of_name, path_of, parts_of, words_text, HasNote};
+ghost use Rattle.dq_front.specs.Notes.{told_octet, told_text, is_of_name, path_of, parts_of, words_text, peer_text, HasNote};
 
-use dq_web::{HttpRequest, Status};
+use dq_web::{Head, Status};
 use httpdate::HttpDate;
 use std::alloc::{AllocError, Global};
 use std::mem;
+use std::net::SocketAddr;
 use std::time::{Instant, SystemTime};
 
 /// The most octets of a path that are told.
@@ -89,17 +90,30 @@ fn parts_of(path: &[u8]) -> (&[u8], &[u8])
 
 /// The words of a request in a log: its method, its institution or a hyphen, and the path below that
 /// without its query.
-pub(crate) fn words_of(alloc: Global, request: &HttpRequest<'_>) -> Result<String, AllocError>
-    ensures { IfOk result (λ words. string_bytes words ≡ words_text request.now.head) }
+pub(crate) fn words_of(alloc: Global, head: &Head<'_>) -> Result<String, AllocError>
+    ensures { IfOk result (λ words. string_bytes words ≡ words_text head.now) }
 {
-    let (name, below) = parts_of(path_of(request.head.target));
+    let (name, below) = parts_of(path_of(head.target));
     let mut text = String::new(alloc);
-    put_told(&mut text, request.head.method)?;
+    put_told(&mut text, head.method)?;
     text.push(' ')?;
     put_told(&mut text, name)?;
     text.push(' ')?;
     put_told(&mut text, below)?;
     Ok(text)
+}
+
+/// The words of a request that cannot be read.
+pub(crate) const UNREADABLE: &str = "- - -";
+
+/// The address of a peer, or a hyphen where it is not known.
+fn peer_text(alloc: Global, peer: Option<SocketAddr>) -> Result<String, AllocError>
+    ensures { IfOk result (λ text. string_bytes text ≡ peer_text peer) }
+{
+    match peer {
+        Some(peer) => format!(in alloc; "{peer}"),
+        None => String::from_str(alloc, "-"),
+    }
 }
 
 /// A clock, and the notes of requests that were answered, a line each.
@@ -135,14 +149,15 @@ impl Notes {
         Instant::now(&self.clock).ok()
     }
 
-    /// Adds a note of a request that was whole at an instant, and of the status of its response.
+    /// Adds a note of a peer's request that was whole at an instant, and of the status of its response.
     pub fn tell(
         &mut self,
+        peer: Option<SocketAddr>,
         words: &str,
         begun: Option<Instant>,
         status: Status,
     ) -> Result<(), AllocError>
-        ensures { OnOk result (HasNote words.now status (string_bytes self.old.lines)
+        ensures { OnOk result (HasNote peer words.now status (string_bytes self.old.lines)
             (string_bytes self.new.lines)) }
     {
         let milliseconds = match (begun, self.now()) {
@@ -150,7 +165,8 @@ impl Notes {
             _ => 0,
         };
         let code = status.code();
-        let line = format!(in self.alloc; "{words} {code} ms {milliseconds}\n")?;
+        let peer = peer_text(self.alloc, peer)?;
+        let line = format!(in self.alloc; "{peer} {words} {code} ms {milliseconds}\n")?;
         self.lines.push_str(line.as_str())
     }
 

@@ -11,6 +11,7 @@ use dq_request::{Request, Response};
 use dq_web::{Question, Written};
 use dq_wires::{ReadTurn, WireFault, Wires};
 use std::alloc::{AllocError, Global};
+use std::net::SocketAddr;
 use std::time::Instant;
 
 /// What a client waits for that asks to go on with the body of its request (RFC 9110 section 10.1.1).
@@ -29,11 +30,12 @@ pub(crate) enum Stage {
     Over,
 }
 
-/// A connection: its place among the wires, what came and is not taken, what becomes of its request,
-/// and whether nothing comes after the response.
+/// A connection: its place among the wires, its peer's address if that is known, what came and is not
+/// taken, what becomes of its request, and whether nothing comes after the response.
 #[derive(Drop)]
 pub(crate) struct Visitor {
     pub place: usize,
+    pub peer: Option<SocketAddr>,
     pub came: Vec<u8>,
     pub stage: Stage,
     pub is_last: bool,
@@ -48,11 +50,12 @@ pub(crate) struct Visitor {
 
 impl Visitor {
     /// One that has just come.
-    pub fn new(alloc: Global, place: usize) -> Self
-        ensures { IsNew place result }
+    pub fn new(alloc: Global, place: usize, peer: Option<SocketAddr>) -> Self
+        ensures { IsNew place peer result }
     {
         Visitor {
             place,
+            peer,
             came: Vec::new(alloc),
             stage: Stage::Reading,
             is_last: false,
@@ -117,7 +120,7 @@ impl Visitor {
             site.now.institutions.items) question.now.framing) }
     {
         let written = site.response_to(question, response)?;
-        notes.tell(self.words.as_str(), self.begun, written.status)?;
+        notes.tell(self.peer, self.words.as_str(), self.begun, written.status)?;
         Ok(written)
     }
 
@@ -226,7 +229,7 @@ impl Visitor {
         self.begun = notes.now();
         match answer.given {
             Given::Response(written) => {
-                notes.tell(self.words.as_str(), self.begun, written.status)?;
+                notes.tell(self.peer, self.words.as_str(), self.begun, written.status)?;
                 self.put(written.octets);
             }
             Given::Question(question) => self.stage = Stage::Waiting(question),
@@ -257,7 +260,9 @@ impl Visitor {
         match site.deed_for(self.came.as_slice(), notes.date())? {
             Deed::Wait => self.is_fresh = false,
             Deed::GoOn => self.go_on(site.alloc)?,
-            Deed::Refuse(written) => {
+            Deed::Refuse(words, written) => {
+                let begun = notes.now();
+                notes.tell(self.peer, words.as_str(), begun, written.status)?;
                 self.is_fresh = false;
                 self.is_last = true;
                 self.put(written.octets);

@@ -9,7 +9,7 @@ use Rattle.dq_dataset.specs.Tree.{ElementList, no_elements, element, sequence, I
 use Rattle.dq_dataset.specs.View.{elements_of}
 use Rattle.dq_json.specs.declared.text.Repertoire.{Repertoire}
 use Rattle.dq_json.specs.declared.text.Repertoire.TheVariants.{Utf8}
-use Rattle.dq_json.specs.Text.{tag_digits, text_in, repertoire_of}
+use Rattle.dq_json.specs.Text.{octets_told, tag_digits, text_in, repertoire_of}
 use Rattle.dq_json.specs.Attributes.{halves, group_member, name_groups, is_name, value_tokens, numbers, number_tokens, value_member, binary_member, is_number, is_spelled_as_text, octets_member, attribute}
 use Rattle.dq_json.specs.Json.{array_member, members, objects, json_tokens}
 use Rattle.dq_json.specs.Outermost.{keys_at, outermost_keys}
@@ -88,8 +88,8 @@ mutual
   deep_members : (r : Repertoire) (d : ElementList) → Deep (members r d)
   deep_members r no_elements = deep_none
   deep_members r (element tag vr octets rest) =
-      deep_append (attribute tag vr (octets_member r vr octets)) (members r rest)
-      (deep_attribute tag vr (octets_member r vr octets) (deep_octets r vr octets)) (deep_members r rest)
+      deep_append (attribute tag vr (octets_member r vr (octets_told tag octets))) (members r rest)
+      (deep_attribute tag vr (octets_member r vr (octets_told tag octets)) (deep_octets r vr (octets_told tag octets))) (deep_members r rest)
   deep_members r (sequence tag vr items rest) =
       deep_append (attribute tag vr (array_member (objects r items))) (members r rest)
       (deep_attribute tag vr (array_member (objects r items)) (deep_array_member (objects r items) (deep_objects r items))) (deep_members r rest)
@@ -110,8 +110,8 @@ each_attribute : (r : Repertoire) (d : ElementList) (rest : List Token)
     → keys_at 1 (members r d ++ rest) ≡ map (λ e. tag_digits e.tag) (elements_of d) ++ keys_at 1 rest
 each_attribute r no_elements rest = refl
 each_attribute r (element tag vr octets others) rest =
-    ap (λ (x : List Token). keys_at 1 x) (append_assoc (attribute tag vr (octets_member r vr octets)) (members r others) rest)
-    ∙ (one_attribute tag vr (octets_member r vr octets) (deep_octets r vr octets) (members r others ++ rest)
+    ap (λ (x : List Token). keys_at 1 x) (append_assoc (attribute tag vr (octets_member r vr (octets_told tag octets))) (members r others) rest)
+    ∙ (one_attribute tag vr (octets_member r vr (octets_told tag octets)) (deep_octets r vr (octets_told tag octets)) (members r others ++ rest)
     ∙ ap (λ (x : List (List ℕ)). tag_digits tag ∷ x) (each_attribute r others rest))
 each_attribute r (sequence tag vr items others) rest =
     ap (λ (x : List Token). keys_at 1 x) (append_assoc (attribute tag vr (array_member (objects r items))) (members r others) rest)

@@ -1,6 +1,7 @@
 -- The DICOM JSON Model object of a data set (PS3.18 section F.2).
 use Rattle.std.specs.Prelude.{List, [], ◌∷◌, ◌++◌, codes}
 use Rattle.json.specs.Token.{Token, begin_object, end_object, begin_array, end_array, key}
+use Rattle.dq_vr.specs.declared.Tag.{Tag}
 use Rattle.dq_vr.specs.declared.Vr.{Vr}
 use Rattle.dq_dataset.specs.declared.data_set.Element.{Element}
 use Rattle.dq_dataset.specs.declared.data_set.Value.{Value}
@@ -9,7 +10,7 @@ use Rattle.dq_dataset.specs.Tree.{ElementList, no_elements, element, sequence, I
 use Rattle.dq_dataset.specs.View.{items_of}
 use Rattle.dq_json.specs.declared.text.Repertoire.{Repertoire}
 use Rattle.dq_json.specs.declared.text.Repertoire.TheVariants.{Utf8}
-use Rattle.dq_json.specs.Text.{repertoire_of}
+use Rattle.dq_json.specs.Text.{octets_told, repertoire_of}
 use Rattle.dq_json.specs.Attributes.{attribute, octets_member}
 
 -- the member Value with the tokens of all values, where there are any
@@ -22,7 +23,7 @@ abbrev mutual
   pub members : Repertoire → ElementList → List Token
   members repertoire no_elements = []
   members repertoire (element tag vr octets rest) =
-      attribute tag vr (octets_member repertoire vr octets) ++ members repertoire rest
+      attribute tag vr (octets_member repertoire vr (octets_told tag octets)) ++ members repertoire rest
   members repertoire (sequence tag vr items rest) =
       attribute tag vr (array_member (objects repertoire items)) ++ members repertoire rest
 
@@ -44,9 +45,9 @@ abbrev pub json_tokens : ElementList → List Token
 json_tokens d = object_in Utf8 d
 
 -- The value of one element, and one element.
-abbrev pub member_of : Repertoire → Vr → Value → List Token
-member_of repertoire vr (Octets octets) = octets_member repertoire vr octets
-member_of repertoire vr (Items items) = items_member repertoire (items_of items)
+abbrev pub member_of : Repertoire → Tag → Vr → Value → List Token
+member_of repertoire tag vr (Octets octets) = octets_member repertoire vr (octets_told tag octets)
+member_of repertoire tag vr (Items items) = items_member repertoire (items_of items)
 
 abbrev pub attribute_of : Repertoire → Element → List Token
-attribute_of repertoire e = attribute e.tag e.vr (member_of repertoire e.vr e.value)
+attribute_of repertoire e = attribute e.tag e.vr (member_of repertoire e.tag e.vr e.value)

@@ -1,5 +1,5 @@
 -- Text of a data set as text of JSON, which is UTF-8 (PS3.18 section F.2).
-use Rattle.std.specs.Prelude.{ℕ, Bool, List, [], ◌∷◌, ◌++◌, Option, Some, None, find, flat_map, codes, encode_utf8, nat_eq, nat_lt, ◌||◌, if◌then◌else◌}
+use Rattle.std.specs.Prelude.{ℕ, Bool, List, [], ◌∷◌, ◌++◌, Option, Some, None, find, flat_map, slice_index_or, ◌-◌, codes, encode_utf8, nat_eq, nat_lt, ◌==◌, ◌&&◌, ◌||◌, if◌then◌else◌}
 use Rattle.std.specs.Cmp.Lexicographic.{pointwise}
 use Rattle.std.specs.Str.Lossy.{utf8_lossy}
 use Rattle.std.specs.Int.{w16, to_be_bytes}
@@ -14,27 +14,70 @@ use Rattle.dq_dataset.specs.declared.data_set.Value.TheVariants.{Octets, Items}
 use Rattle.dq_dataset.specs.Tree.{ElementList}
 use Rattle.dq_dataset.specs.View.{elements_of, has_tag}
 use Rattle.dq_json.specs.declared.text.Repertoire.{Repertoire}
-use Rattle.dq_json.specs.declared.text.Repertoire.TheVariants.{Utf8, Other}
+use Rattle.dq_json.specs.declared.text.Repertoire.TheVariants.{Utf8, OneOctet, Other}
+use Rattle.dq_json.specs.declared.code_tables.CodeTable.{CodeTable}
+use Rattle.dq_json.specs.declared.code_tables.CodeTable.TheVariants.{Latin1, Latin2, Latin3, Latin4, Latin5, Cyrillic, Arabic, Greek, Hebrew, Thai}
+use Rattle.dq_json.specs.declared.code_tables.TheConstants.{LATIN_1, LATIN_2, LATIN_3, LATIN_4, LATIN_5, CYRILLIC, ARABIC, GREEK, HEBREW, THAI}
 
--- the character of an octet: above 7FH it is U+FFFD
+-- what the octets from A0H on stand for: the code's tables, with U+FFFD where a set has no character
+unfoldable pub high_half : CodeTable → List ℕ
+high_half Latin1 = LATIN_1
+high_half Latin2 = LATIN_2
+high_half Latin3 = LATIN_3
+high_half Latin4 = LATIN_4
+high_half Latin5 = LATIN_5
+high_half Cyrillic = CYRILLIC
+high_half Arabic = ARABIC
+high_half Greek = GREEK
+high_half Hebrew = HEBREW
+high_half Thai = THAI
+
+-- The character of an octet: up to 7FH the default repertoire's, up to 9FH none.
+unfoldable pub character_in : CodeTable → ℕ → ℕ
+character_in table octet =
+    if nat_lt octet 128 then octet
+    else if nat_lt octet 160 then 0xFFFD
+    else slice_index_or (high_half table) (octet - 160) 0
+
+-- of another set: above 7FH it is U+FFFD
 abbrev pub ascii_or_replaced : ℕ → ℕ
 ascii_or_replaced octet = if nat_lt octet 128 then octet else 0xFFFD
 
--- What is UTF-8 stays, and each piece that is no UTF-8 becomes U+FFFD. Of other character sets each
--- octet above 7FH does: they are not converted.
+-- What is UTF-8 stays, and each piece that is no UTF-8 becomes U+FFFD. Sets with one octet a
+-- character are converted. Of all others each octet above 7FH becomes U+FFFD.
 unfoldable pub text_in : Repertoire → List ℕ → List ℕ
 text_in Utf8 octets = utf8_lossy octets
+text_in (OneOctet table) octets = flat_map (λ octet. encode_utf8 (character_in table octet)) octets
 text_in Other octets = flat_map (λ octet. encode_utf8 (ascii_or_replaced octet)) octets
 
--- Specific Character Set names the default repertoire, ISO_IR 6, or UTF-8, ISO_IR 192
--- (PS3.3 section C.12.1.1.2)
+-- the set with one octet a character that a defined term names (PS3.3 section C.12.1.1.2)
+unfoldable pub table_named : List ℕ → Option CodeTable
+table_named term =
+    if pointwise nat_eq term (codes "ISO_IR 100") then Some Latin1
+    else if pointwise nat_eq term (codes "ISO_IR 101") then Some Latin2
+    else if pointwise nat_eq term (codes "ISO_IR 109") then Some Latin3
+    else if pointwise nat_eq term (codes "ISO_IR 110") then Some Latin4
+    else if pointwise nat_eq term (codes "ISO_IR 148") then Some Latin5
+    else if pointwise nat_eq term (codes "ISO_IR 144") then Some Cyrillic
+    else if pointwise nat_eq term (codes "ISO_IR 127") then Some Arabic
+    else if pointwise nat_eq term (codes "ISO_IR 126") then Some Greek
+    else if pointwise nat_eq term (codes "ISO_IR 138") then Some Hebrew
+    else if pointwise nat_eq term (codes "ISO_IR 166") then Some Thai
+    else None
+
+unfoldable pub one_octet : Option CodeTable → Repertoire
+one_octet (Some table) = OneOctet table
+one_octet None = Other
+
+-- Specific Character Set names the default repertoire, ISO_IR 6, or UTF-8, ISO_IR 192, or one of
+-- those sets.
 abbrev pub names_utf8 : List ℕ → Bool
 names_utf8 value =
     pointwise nat_eq value (codes "ISO_IR 6") || pointwise nat_eq value (codes "ISO_IR 192")
 
 unfoldable pub repertoire_named : List (List ℕ) → Repertoire
 repertoire_named [] = Utf8
-repertoire_named (value ∷ []) = if names_utf8 value then Utf8 else Other
+repertoire_named (value ∷ []) = if names_utf8 value then Utf8 else one_octet (table_named value)
 repertoire_named (value ∷ (another ∷ others)) = Other
 
 abbrev pub repertoire_in : Value → Repertoire
@@ -49,6 +92,13 @@ repertoire_by outer (Some e) = repertoire_in e.value
 -- is an item in (PS3.3 section C.12.1.1.2).
 abbrev pub repertoire_of : Repertoire → ElementList → Repertoire
 repertoire_of outer d = repertoire_by outer (find (has_tag specific_character_set) (elements_of d))
+
+-- What is told of the octets of an element: text is told as UTF-8, and Specific Character Set says
+-- so.
+unfoldable pub octets_told : Tag → List ℕ → List ℕ
+octets_told tag octets =
+    if (tag.group == specific_character_set.group) && (tag.element == specific_character_set.element)
+    then codes "ISO_IR 192" else octets
 
 -- the eight upper-case hexadecimal digits that name an attribute (PS3.18 section F.2.2)
 abbrev pub tag_digits : Tag → List ℕ

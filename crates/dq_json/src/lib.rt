@@ -2,6 +2,7 @@
 #![tactic(auto)]
 
 mod attributes;
+mod code_tables;
 mod keywords;
 pub mod laws;
 mod text;

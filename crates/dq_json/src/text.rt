@@ -3,8 +3,9 @@ ghost use Rattle.std.specs.Prelude.{◌≡◌, ◌<◌, ◌++◌, ◌∷◌, [],
 ghost use Rattle.json.specs.Token.{string};
 ghost use Rattle.dq_dataset.specs.declared.data_set.Value.TheVariants.{Octets};
 ghost use Rattle.dq_json.specs.Added.{Adds};
-ghost use Rattle.dq_json.specs.Text.{ascii_or_replaced, text_in, repertoire_of, repertoire_in, repertoire_named, tag_digits};
+ghost use Rattle.dq_json.specs.Text.{ascii_or_replaced, character_in, octets_told, text_in, repertoire_of, repertoire_in, repertoire_named, tag_digits};
 
+use crate::code_tables::{CodeTable, NONE};
 use dq_dataset::{DataSet, Value};
 use dq_value::values;
 use dq_vr::{Tag, Vr, tags};
@@ -16,11 +17,13 @@ use std::alloc::{AllocError, Global};
 pub enum Repertoire {
     /// Those of UTF-8, among them the default repertoire.
     Utf8,
+    /// Those of a set with one octet a character.
+    OneOctet(CodeTable),
     /// Those of another character set.
     Other,
 }
 
-#[tactic(auto, unfolding(crate::specs::Text::repertoire_named))]
+#[tactic(auto, unfolding(crate::specs::Text::repertoire_named, crate::specs::Text::one_octet))]
 fn repertoire_named(octets: &[u8]) -> Repertoire
     ensures { result ≡ repertoire_in (Octets octets.now) }
 {
@@ -28,12 +31,15 @@ fn repertoire_named(octets: &[u8]) -> Repertoire
     let Some(name) = names.next() else {
         return Repertoire::Utf8;
     };
-    if names.next().is_none()
-        && (name == b"ISO_IR 6".as_slice() || name == b"ISO_IR 192".as_slice())
-    {
-        Repertoire::Utf8
-    } else {
-        Repertoire::Other
+    if names.next().is_some() {
+        return Repertoire::Other;
+    }
+    if name == b"ISO_IR 6".as_slice() || name == b"ISO_IR 192".as_slice() {
+        return Repertoire::Utf8;
+    }
+    match CodeTable::named(name) {
+        Some(table) => Repertoire::OneOctet(table),
+        None => Repertoire::Other,
     }
 }
 
@@ -51,15 +57,35 @@ pub(crate) fn repertoire_of(outer: Repertoire, data_set: &DataSet) -> Repertoire
     }
 }
 
+/// What is told of the octets of an element: text is told as UTF-8, and Specific Character Set says so.
+#[tactic(auto, unfolding(crate::specs::Text::octets_told))]
+pub(crate) fn octets_told(tag: Tag, octets: &[u8]) -> &[u8]
+    ensures { result.now ≡ octets_told tag octets.now }
+{
+    if tag == tags::SPECIFIC_CHARACTER_SET {
+        b"ISO_IR 192"
+    } else {
+        octets
+    }
+}
+
 /// The character of an octet up to 7FH, or else U+FFFD.
 fn ascii_or_replaced(octet: u8) -> char
     ensures { result ≡ ascii_or_replaced octet }
 {
-    if octet < 128 {
-        char::from(octet)
-    } else {
-        '\u{FFFD}'
+    if octet < 128 { char::from(octet) } else { NONE }
+}
+
+/// The characters of the octets in a code table.
+fn converted(alloc: Global, table: CodeTable, octets: &[u8]) -> Result<String, AllocError>
+    ensures { IfOk result (λ text. string_bytes text
+        ≡ flat_map (λ octet. encode_utf8 (character_in table octet)) octets.now) }
+{
+    let mut text = String::new(alloc);
+    for octet in octets {
+        text.push(table.character(*octet))?;
     }
+    Ok(text)
 }
 
 /// The octets, with U+FFFD for each above 7FH.
@@ -85,6 +111,7 @@ pub(crate) fn put_text(
     ensures { Adds result out.old out.new (string (text_in repertoire octets.now) ∷ []) }
 {
     match repertoire {
+        Repertoire::OneOctet(table) => out.string(converted(alloc, table, octets)?.as_str()),
         Repertoire::Other => out.string(replaced(alloc, octets)?.as_str()),
         Repertoire::Utf8 => match std::str::from_utf8(octets) {
             Ok(text) => out.string(text),

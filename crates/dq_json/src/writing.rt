@@ -7,7 +7,7 @@ ghost use Rattle.dq_json.specs.Added.{Adds};
 ghost use Rattle.dq_json.specs.Json.{members, items_member, objects, object_in, json_tokens, attribute_of};
 
 use crate::attributes::{begin_attribute, begin_values, put_octets};
-use crate::text::{Repertoire, repertoire_of};
+use crate::text::{Repertoire, octets_told, repertoire_of};
 use dq_dataset::{DataSet, Element, Value};
 use json::Writer;
 use std::alloc::{AllocError, Global};
@@ -24,7 +24,8 @@ fn put_element(
     begin_attribute(out, alloc, element.tag, element.vr)?;
     match &element.value {
         Value::Octets(octets) => {
-            put_octets(out, alloc, repertoire, element.vr, octets.as_slice())?;
+            let told = octets_told(element.tag, octets.as_slice());
+            put_octets(out, alloc, repertoire, element.vr, told)?;
         }
         Value::Items(items) => put_items(out, alloc, repertoire, items.as_slice())?,
     }
@@ -98,7 +99,8 @@ fn put_items(
 }
 
 /// The JSON of a data set: an object with an attribute for each element, in the order of their tags.
-/// Text is UTF-8. Other character sets are not converted: each of their octets above 7FH becomes
+/// Text is UTF-8, and Specific Character Set says so. ISO_IR 100, 101, 109, 110, 126, 127, 138, 144,
+/// 148 and 166 are converted (PS3.3 section C.12.1.1.2); of all others each octet above 7FH becomes
 /// U+FFFD.
 pub fn json_of(alloc: Global, data_set: &DataSet) -> Result<Vec<u8>, AllocError>
     ensures octets { IfOk result (λ v. v.items ≡ print (json_tokens data_set.now)) }

@@ -15,6 +15,7 @@ from .common import PROGRAM, Pair, entry_octets, rows_of
 
 SAMPLE = re.compile(r'([a-zA-Z_:][\w:]*)(?:\{((?:[a-zA-Z_]\w*="(?:[^"\\\n]|\\[\\n"])*",?)*)\})? '
                     r'(\S+)(?: -?\d+)?')
+FROM = r"\S+Z - web 127\.0\.0\.1:\d+"
 LABEL = re.compile(r'([a-zA-Z_]\w*)="((?:[^"\\\n]|\\[\\n"])*)"')
 
 
@@ -166,13 +167,18 @@ def log(tally: Tally, folder: pathlib.Path) -> None:
         begin = len(path.read_bytes())
         for method, target, name, body, _ in plays:
             pair.ask(method, target, name, body=body)
-        until(lambda: path.read_bytes().count(b"- web ", begin) >= len(plays), 5)
+        with pair.connect() as speaker:
+            speaker.send(b"GET\r\n\r\n")
+            speaker.rest()
+        until(lambda: path.read_bytes().count(b"- web ", begin) > len(plays), 5)
         text = path.read_text()
         lines = [line for line in text.split("\n") if " - web " in line]
         for method, _, _, _, told in plays:
             tally.check(f"the line of {method} {told}",
-                        any(re.fullmatch(rf"\S+Z - web {method} {re.escape(told)} ms \d+", line)
+                        any(re.fullmatch(rf"{FROM} {method} {re.escape(told)} ms \d+", line)
                             for line in lines), lines)
+        tally.check("the line of a request that cannot be read", any(
+            re.fullmatch(rf"{FROM} - - - 400 ms \d+", line) for line in lines), lines)
         pair.ask("GET", "/health")
         for key in pair.keys.values():
             tally.check("no key", key not in path.read_text())

@@ -68,13 +68,17 @@ def order_of_worklist(tally: Tally, pair: Pair, page_of: Browser) -> None:
 def searches_of_worklist(tally: Tally, pair: Pair, page_of: Browser) -> None:
     """The worklist by name, patient ID, accession number, modality, station and day."""
     accent = "0x" + "ÖZTÜRK^ZOË".encode().hex()
+    in_latin_2 = "0x" + "BŁASZCZYK^JÓZEF".encode("iso8859-2").hex()
     items = (item_at("Z1", "MILLER^ANNA^MARIA", "20240706", "0715", "MR", "MR1",
                      AccessionNumber="A77"),
-             item_at("Z2", accent, SpecificCharacterSet="ISO_IR 192"))
+             item_at("Z2", accent, SpecificCharacterSet="ISO_IR 192"),
+             item_at("Z3", in_latin_2, SpecificCharacterSet="ISO_IR 101"))
     pair.play(*(f"schedule NORTH {item}" for item in items))
-    open_worklist(page_of, pair, 4)
+    open_worklist(page_of, pair, 5)
+    tally.check("a name in Latin-2 is displayed", "BŁASZCZYK, JÓZEF" in page_of.run(
+        f"{CELLS}.map(row => row[1])"))
     click(page_of, "#days")
-    page_of.until(f"{ROWS} === 5")
+    page_of.until(f"{ROWS} === 6")
     displayed = page_of.run(f"{CELLS}.map(row => row[1])")[-1]
     tally.check("a name is displayed", displayed == "MILLER, ANNA MARIA", displayed)
     for what, wanted, fields in (
@@ -84,20 +88,21 @@ def searches_of_worklist(tally: Tally, pair: Pair, page_of: Browser) -> None:
             ("a given name", "Z1", {"name": "anna"}),
             ("a name with accents as it is displayed", "Z2", {"name": "ÖZTÜRK, ZOË"}),
             ("the same in lower case", "Z2", {"name": "öztürk"}),
+            ("a name that is kept in Latin-2", "Z3", {"name": "Błaszczyk, Józef"}),
             ("nobody's name", "", {"name": "nobody"}),
             ("an accession number", "Z1", {"accession": "A77"}),
-            ("a patient ID", "S1,S2,S3,Z2,Z1", {"id": "P1"}),
+            ("a patient ID", "S1,S2,S3,Z2,Z3,Z1", {"id": "P1"}),
             ("a part of an ID", "", {"id": "P"}),
             ("a modality in lower case", "Z1", {"modality": "mr"}),
             ("a station", "Z1", {"station": "MR1"}),
             ("a day", "Z1", {"from": "2024-07-06", "to": "2024-07-06"}),
             ("days from one", "Z1", {"from": "2024-07-06"}),
-            ("days to one", "S1,S2,S3,Z2", {"to": "2024-07-05"}),
+            ("days to one", "S1,S2,S3,Z2,Z3", {"to": "2024-07-05"}),
             ("a modality and a name", "", {"modality": "MR", "name": "roe"})):
         search_for(page_of, **fields)
         tally.check(f"the worklist is searched for {what}",
                     page_of.until(f"{STEP_IDS} === {json.dumps(wanted)}", 3), page_of.run(STEP_IDS))
-    for one in ("Z1", "Z2"):
+    for one in ("Z1", "Z2", "Z3"):
         pair.play(f"withdraw NORTH {one}")
 
 
