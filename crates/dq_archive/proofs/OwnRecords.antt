@@ -7,7 +7,7 @@ use Rattle.dq_list.specs.Among.{IsAmong}
 use Rattle.dq_tables.specs.declared.row.Row.{Row}
 use Rattle.dq_tables.specs.Rows.{Record, record_of, of}
 use Rattle.dq_tables.specs.Keys.{value_passing}
-use Rattle.dq_tables.specs.Sound.{IsSound, is_own_row, is_value}
+use Rattle.dq_tables.specs.Sound.{OwnEach, is_own_row, is_value}
 
 -- what holds of the record of each row that is its own
 module _ (P : Record → Type 0) (each : (row : Row) → is_own_row row ≡ true → P (record_of row)) (r : Record) where
@@ -21,9 +21,9 @@ module _ (P : Record → Type 0) (each : (row : Row) → is_own_row row ≡ true
   filtered p [] own h = absurd h
   filtered p (row ∷ rows) own h = step row (p row) (filter p rows) own.0 (filtered p rows own.1) h
 
-  pub of_each : (institution : List ℕ) (rows : List Row) → IsSound rows → IsAmong r (of institution rows) → P r
+  pub of_each : (institution : List ℕ) (rows : List Row) → OwnEach rows → IsAmong r (of institution rows) → P r
   unfolding of
-  of_each institution rows sound h = filtered (λ (row : Row). bytes_eq row.inst institution) rows sound.own h
+  of_each institution rows own h = filtered (λ (row : Row). bytes_eq row.inst institution) rows own h
 
 -- a value that passes a test
 passed_by : (test : List ℕ → Bool) (value wanted : List ℕ) (b : Bool) → test value ≡ b → (if b then Some value else None) ≡ Some wanted

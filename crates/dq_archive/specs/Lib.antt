@@ -1,2 +1,4 @@
 pub mod Archives
 pub mod Deciding
+pub mod Later
+pub mod Pasts

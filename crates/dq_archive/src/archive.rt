@@ -1,15 +1,18 @@
 //! One institution's part of the rows that tables keep.
-ghost use Rattle.std.specs.Prelude.{◌≡◌, is_some, length, take, drop, map, option_map};
+ghost use Rattle.std.specs.Prelude.{◌≡◌, is_some, length, take, drop, map, option_map, OnOk};
 ghost use Rattle.dq_tables.specs.Rows.{row_of};
-ghost use Rattle.dq_tables.specs.Finding.{record_at, records_of, records_above, waiting_among};
+ghost use Rattle.dq_tables.specs.Finding.{record_at, records_of, records_above, records_after, waiting_among};
 ghost use Rattle.dq_tables.specs.Choosing.{studies_among};
 ghost use Rattle.dq_tables.specs.Serving.{Serves};
 ghost use Rattle.dq_archive.specs.Archives.{IsOver, IsSame, state_in, Looks};
 ghost use Rattle.dq_archive.specs.Deciding.{answer_and_edits, IsOwn, FitsIf};
+ghost use Rattle.dq_archive.specs.Later.{IsTold};
 
 use crate::decision::Decision;
+use crate::later::{Added, tell_if};
 use dq_config::Institution;
 use dq_list::Listed;
+use dq_tables::laws::honest_rows_are_sound;
 use dq_tables::{Choice, Kind, Row, TableFault, Tables, make_change};
 use std::alloc::Global;
 
@@ -79,6 +82,22 @@ impl<'a, T: Tables> Archive<'a, T> {
         self.tables.rows_from(kind, name, from, most)
     }
 
+    /// The institution's records of a kind with keys behind a key, at most so many, as rows in the
+    /// order of their keys.
+    pub fn rows_after(
+        &mut self,
+        kind: Kind,
+        key: &[u8],
+        most: usize,
+    ) -> Result<Listed<Row>, TableFault>
+        ensures { Looks T.state self.old self.new (λ records.
+            map (row_of self.old.institution.now.name)
+            (take most (records_after kind key.now records))) result }
+    {
+        let name = self.institution.name.as_slice();
+        self.tables.rows_after(kind, name, key, most)
+    }
+
     /// The records of a kind under the record with the key `above`, as rows in the order of their
     /// keys.
     pub fn rows_above(&mut self, kind: Kind, above: &[u8]) -> Result<Listed<Row>, TableFault>
@@ -134,5 +153,27 @@ impl<'a, T: Tables> Archive<'a, T> {
         };
         make_change(self.tables, change)?;
         Ok(answer)
+    }
+
+    /// Makes the change of a decision as `carry_out` does, and tells what it adds to the studies,
+    /// the series and the images.
+    pub fn carry_out_telling<A: Drop>(
+        &mut self,
+        decision: Decision<A>,
+        added: &mut Listed<Added>,
+    ) -> Result<A, TableFault>
+        requires own { IsOwn self.old.institution.now.name decision.change }
+        requires fits { (state_in T.state self.old).honest
+            → FitsIf (state_in T.state self.old).rows decision.change }
+        ensures same { IsSame self.old self.new }
+        ensures serves { Serves (state_in T.state self.old) (state_in T.state self.new)
+            self.old.institution.now.name (λ _. answer_and_edits decision) result }
+        ensures told { (state_in T.state self.new).honest → OnOk result
+            (IsTold self.old.institution.now.name (state_in T.state self.old).rows
+            (state_in T.state self.new).rows added.old added.new) }
+    {
+        honest_rows_are_sound::<T>();
+        tell_if(self.alloc, &decision.change, added)?;
+        self.carry_out(decision)
     }
 }

@@ -3,6 +3,11 @@
 
 mod archive;
 mod decision;
+mod later;
+pub mod laws;
+mod past;
 
 pub use archive::Archive;
 pub use decision::Decision;
+pub use later::Added;
+pub use past::Past;

@@ -7,7 +7,6 @@ mod InTurn
 mod Loops
 mod OneByOne
 mod OnePdu
-pub mod Places
 pub mod ShortPdus
 mod Sound
 pub mod Standing

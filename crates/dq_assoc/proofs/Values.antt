@@ -8,11 +8,6 @@ use Rattle.dq_dimse.specs.declared.fault.DimseFault.{DimseFault}
 use Rattle.dq_dimse.specs.Assembling.{Assembly, Messages, messages_from, assembly_from, followed_by, spent_by}
 use Rattle.dq_dimse.proofs.Assemblies.{messages_from-nil, messages_from-append, messages_from-spent, messages_from-fault, assembly_from-nil, assembly_from-append}
 
--- a value that an assembler answers a fault to
-pub record IsFaulty (list : List Message) (read : Messages) : Type 0 where
-  pub messages_are : list ≡ list ++ read.list
-  pub fault_is : true ≡ is_some read.fault
-
 -- what was read so far, and what the values that are left add to it
 pub record ReadSo (list : List Message) (s : Assembly) (left : List Pdv) (first : Assembly) (all : List Pdv) : Type 0 where
   pub read : followed_by list (messages_from s left) ≡ messages_from first all

@@ -29,12 +29,6 @@ module _ (before mid after : Option (List ℕ)) (octets rest first later : List 
       ∙ ap (λ l. encode_lower so.0 ++ l) (encode-append lower_digits first later) in
       (fails off.0, rw whole (AppendsPart-after before mid after (encode_lower so.0) (encode_lower first) (encode_lower later) so.2 off.1))
 
-pub spelled-whole : (before after : Option (List ℕ)) (octets rest : List ℕ) → rest ≡ [] → Spelled before after octets rest
-    → Appends before after (encode_lower octets)
-spelled-whole before after octets rest none so =
-    let all : so.0 ≡ octets = sym (append-nil so.0) ∙ ap (λ l. so.0 ++ l) (sym none) ∙ so.1 in
-    subst (λ (o : List ℕ). Appends before after (encode_lower o)) all so.2
-
 encode-none : encode_lower [] ≡ []
 unfolding encode_with
 encode-none = refl

@@ -16,7 +16,7 @@ pub goes-start : {A : Type 0} {t : State} {a : A} → Goes t t (ok_of a)
 goes-start = record { was_honest = λ h. h; told = λ e. cc; untold = λ e. inl e; lasts = λ e. e; settles = λ h s. s }
 
 -- what an answer leaves, after another
-settled-then : {A : Type 0} (P Q R : Type 0) (r : Result A Fault) → (P → Q) → OnOk r (Q → R) → OnOk r (P → R)
+pub settled-then : {A : Type 0} (P Q R : Type 0) (r : Result A Fault) → (P → Q) → OnOk r (Q → R) → OnOk r (P → R)
 settled-then P Q R (Ok a) f g = λ p. g (f p)
 settled-then P Q R (Err e) f g = tt
 

@@ -9,6 +9,11 @@ pub mod Slotted
 pub mod Tallying
 pub mod Alike
 pub mod Owning
+pub mod Brief
+pub mod Lookback
+pub mod Telling
+pub mod Framing
+pub mod OpenQueries
 pub mod Pieces
 pub mod Turning
 pub mod Taking

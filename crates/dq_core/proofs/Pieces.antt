@@ -21,7 +21,7 @@ use Rattle.dq_assoc.specs.Table.{Input}
 use Rattle.dq_assoc.specs.Inputs.{inputs_of, inputs}
 use Rattle.dq_dimse.specs.Holding.{StandForAll}
 use Rattle.dq_assoc.specs.After.{AssociationAfter, state_of, is_closed, agreement_in, association_from, inputs_from}
-use Rattle.dq_assoc.specs.Holding.{Stands, accepted_in, held_agreement}
+use Rattle.dq_assoc.specs.Holding.{Stands, accepted_in, held_agreement, held_state}
 use Rattle.dq_assoc.proofs.Standing.{stands_state, stands_agreement}
 use Rattle.dq_config.specs.declared.config.Institution.{Institution}
 use Rattle.dq_core.specs.declared.slot.Slot.{Slot}
@@ -32,7 +32,6 @@ use Rattle.dq_core.specs.Connections.{Connection, with_piece}
 use Rattle.dq_core.specs.Owners.{owner, live_of}
 use Rattle.dq_core.specs.Shared.{World, answer_by}
 use Rattle.dq_core.specs.Doing.{agreement_after, taken_inputs}
-use Rattle.dq_core.specs.Queries.{open_query_in}
 use Rattle.dq_core.specs.Slots.{home_of, StandsAt, IsHeld, IsTaken, Took, verdict_for, owner_with, routed_first, connection_answer, AreAlike}
 use Rattle.dq_core.proofs.Composing.{none_stands}
 use Rattle.dq_core.proofs.isolation.Streams.{AddsInputs, owner-stays}
@@ -171,6 +170,7 @@ pub record TookBy (q : Option Institution) (verdict : Verdict) (pdus : List Pdu)
   pub number : new.number ≡ old.number
   pub inbox : new.inbox ≡ old.inbox
   pub query : new.query ≡ old.query
+  pub home : (held_state old.association ≡ Waiting) ⊎ (new.home ≡ old.home)
 
 -- the inbox of the connection was fed the piece
 pub record FedBy (stream piece : List ℕ) (pdus : List Pdu) (fault : Option PduFault) (inbox : Inbox) : Type 0 where
@@ -216,6 +216,16 @@ module _ (institutions : List Institution) (laws : Laws institutions) (world : W
       owned = λ a e. is_held.stands.owned a (stands_agreement old.association first stands ∙ e);
     }
 
+    -- a slot without an association has no home
+    waits-homeless : (h : HeldState) (home : Option (List ℕ)) → Before institutions c.stream h home → state_of h ≡ Waiting → home ≡ None
+    waits-homeless held.Waiting home b waiting = b.home_is ∙ no-home (owner institutions c.stream)
+    waits-homeless (held.Open a assembly) home b waiting = cc
+    waits-homeless (held.Closed agreed) home b waiting = absurd (false≢true (sym b.not_closed))
+
+    still-home : (new : Slot) → (held_state old.association ≡ Waiting) ⊎ (new.home ≡ old.home) → (old.home ≡ None) ⊎ (new.home ≡ old.home)
+    still-home new (inl waiting) = inl (waits-homeless first old.home at-first (sym (stands_state old.association first stands) ∙ waiting))
+    still-home new (inr same) = inr same
+
     whole : inputs (c.stream ++ piece) ≡ inputs c.stream ++ inputs_from first pdus fault
     whole = added laws.further c.stream piece pdus fault first is_held.faultless (record { stands = refl }) fed.list fed.fault_is
 
@@ -258,7 +268,6 @@ module _ (institutions : List Institution) (laws : Laws institutions) (world : W
               inbox = rw took.inbox fed.stands;
               faultless = fed.fault_is ∙ s.0;
               stands = rw (← same, fed.list) s.1;
-              query = ap open_query_in took.query ∙ is_held.query;
             },
             s.1.home,
           )
@@ -274,7 +283,8 @@ module _ (institutions : List Institution) (laws : Laws institutions) (world : W
         stands = is_given is_held fed new t now;
         answer = alike-answer is_held fed new t now counts;
         home = (mid-stands is_held fed).home;
-        query = ap open_query_in by.query;
+        query = by.query;
+        stays = still-home is_held fed new by.home;
         held = λ close. still-held is_held fed new t now ((is_given is_held fed new t now).step.close ∙ close);
         listed = owner-listed old.home;
       })

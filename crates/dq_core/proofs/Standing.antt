@@ -1,5 +1,5 @@
 -- A server that stands for a history stands for it with one event more.
-use Rattle.std.proofs.Common.{◌≡◌, ℕ, Bool, true, false, List, [], ◌∷◌, ◌++◌, Option, Some, inl, inr, refl, sym, ap, ◌∙◌}
+use Rattle.std.proofs.Common.{◌≡◌, ℕ, Bool, true, false, List, [], ◌∷◌, ◌++◌, Option, Some, inl, inr, refl, sym, ap, subst, ◌∙◌}
 use Rattle.std.proofs.lemmas.Bool.{false≢true}
 use Rattle.dq_config.specs.declared.config.Institution.{Institution}
 use Rattle.dq_tables.specs.declared.row.Row.{Row}
@@ -9,7 +9,7 @@ use Rattle.dq_core.specs.declared.event.Event.TheVariants as event
 use Rattle.dq_core.specs.declared.event.Reply.{Reply}
 use Rattle.dq_core.specs.Shared.{World, turn, world_after_turn, replies_from, world_from, first_world, world_after}
 use Rattle.dq_core.specs.Histories.{newest_after}
-use Rattle.dq_core.specs.Slots.{Turned}
+use Rattle.dq_core.specs.Slots.{AreHeld, Turned}
 use Rattle.dq_core.specs.Stepping.{Goes}
 use Rattle.dq_core.specs.Standing.{Standing, StandsFor}
 use Rattle.dq_core.proofs.Going.{ok_of}
@@ -46,7 +46,8 @@ stands-next {state = state} {server = server} {new = new} {rows = rows} {events 
     let after = world-append server.institutions (first_world rows) events (event ∷ []) in record {
       unspent = p ∙ s.unspent;
       newest = rw (n, s.newest, newest-append) refl;
-      holds = rw (i, after) t.holds;
+      holds = rw (i, after) (subst (λ (rs : List Row). AreHeld server.institutions rs new.slots
+          (turn server.institutions (world_after server.institutions rows events) event).connections) t.rows t.holds);
       keeps = rw (i, after) t.rows;
       working = still-working g s.working (state new.tables).failed refl;
     }

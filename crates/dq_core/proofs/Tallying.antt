@@ -48,16 +48,13 @@ module _ (institutions : List Institution) (name : List ℕ) where
 
 -- ---- the counts that are held
 
-abbrev zeros : ℕ → List ℕ
-zeros n = replicate n 0
-
 has-first : {X : Type 0} (p : X → Bool) (xs : List X) (k : ℕ) (d : X) → k < length xs → p (get_or xs k d) ≡ true → position_or_len p xs < length xs
 has-first p [] k d h t = absurd (omega (arith, h))
 has-first p (x ∷ xs) zero d h t = grind (arith)
 has-first p (x ∷ xs) (suc k) d h t = grind (arith, has-first p xs k d)
 
 -- an institution that is listed stands at a place
-listed-place : (institutions : List Institution) (i : Institution) → Contains institutions i
+pub listed-place : (institutions : List Institution) (i : Institution) → Contains institutions i
     → (place : ℕ) × (institution_index institutions i.name ≡ Some place) × (place < length institutions)
 listed-place institutions i k =
     let p : Institution → Bool = λ j. bytes_eq j.name i.name in

@@ -20,6 +20,8 @@ use Rattle.dq_tables.specs.Keeping.{State as Kept}
 use Rattle.dq_core.specs.declared.event.Reply.{Reply}
 use Rattle.dq_core.specs.declared.fault.Fault.{Fault}
 use Rattle.dq_core.specs.declared.fault.Fault.TheVariants.{NoMemory, Store}
+use Rattle.dq_core.specs.declared.answers.Answers.{Answers}
+use Rattle.dq_core.specs.Queries.{found_left}
 use Rattle.dq_core.specs.Services.{ConsoleOrder}
 use Rattle.dq_core.specs.Pages.{OpenQuery, reaction}
 use Rattle.dq_core.specs.Answers.{Progress, Answer, agreement_by, no_answer, message_answer, then_answer}
@@ -42,9 +44,10 @@ DidPart owner answer before after IsLeft =
 
 -- An outcome is answered and its edits are made, or there is a fault, and no edit is made.
 pub record Operates (old new : Kept) (institution : List ℕ)
-    (does : List Record → Found × List Edit) (result : Result Found Fault) : Type 0 where
+    (does : List Record → Found × List Edit) (result : Result Answers Fault) : Type 0 where
   pub goes : Goes old new result
-  pub answered : new.honest → IfOk result (λ found. found ≡ (does (of institution old.rows)).0)
+  pub answered : new.honest → IfOk result (λ answers.
+      found_left (of institution new.rows) answers ≡ (does (of institution old.rows)).0)
   pub done : new.honest → OnOk result (
       new.rows ≡ after (by institution (does (of institution old.rows)).1) old.rows)
   pub same : new.honest → OnErr result (new.rows ≡ old.rows)

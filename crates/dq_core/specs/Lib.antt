@@ -19,6 +19,7 @@ pub mod Faults
 pub mod Stepping
 pub mod Doing
 pub mod Tallies
+pub mod Additions
 pub mod Slots
 pub mod Standing
 pub mod Looking

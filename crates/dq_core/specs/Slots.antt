@@ -1,6 +1,6 @@
 -- What a slot of the server stands for: a connection that is held. This is there for the prover.
 use Rattle.std.specs.Str.{bytes_eq}
-use Rattle.std.specs.Prelude.{◌≡◌, ℕ, Bool, false, length, IsSome, List, [], ◌∷◌, ◌++◌, Option, Some, None, is_some, Contains}
+use Rattle.std.specs.Prelude.{◌≡◌, ◌≤◌, ◌⊎◌, ◌&&◌, ℕ, Bool, false, length, IsSome, List, [], ◌∷◌, ◌++◌, Option, Some, None, is_some, Contains}
 use Rattle.std.specs.List.{AllByRecursion}
 use Rattle.std.specs.Ordering.{nat_cmp}
 use Rattle.std.specs.BTreeMap.{IsOrdered, get as place_under}
@@ -23,7 +23,10 @@ use Rattle.dq_core.specs.declared.connections.Connections.{Connections}
 use Rattle.dq_core.specs.declared.slot.Slot.{Slot}
 use Rattle.dq_core.specs.declared.slot.Taken.{Taken as HeldTaken}
 use Rattle.dq_core.specs.Pages.{OpenQuery}
-use Rattle.dq_core.specs.Queries.{open_query_in}
+use Rattle.dq_archive.specs.declared.later.Added.{Added}
+use Rattle.dq_core.specs.declared.pages.OpenQuery.{OpenQuery as HeldQuery}
+use Rattle.dq_core.specs.Additions.{log_of}
+use Rattle.dq_core.specs.Queries.{open_query_in, query_then}
 use Rattle.dq_core.specs.Answers.{Answer, verdict_at}
 use Rattle.dq_core.specs.Connections.{Connection, with_piece}
 use Rattle.dq_core.specs.Histories.{is_above}
@@ -53,15 +56,45 @@ pub record IsHeld (institutions : List Institution) (slot : Slot) (c : Connectio
   pub inbox : InboxAfter c.stream slot.inbox
   pub faultless : (pdus_in c.stream).fault ≡ None
   pub stands : StandsAt (owner institutions c.stream) slot (pdus_in c.stream).list
-  pub query : open_query_in slot.query ≡ c.query
+
+-- the institution that has its home in a slot
+abbrev pub institution_at : List Institution → Option (List ℕ) → Option Institution
+institution_at institutions None = None
+institution_at institutions (Some home) = institution_named institutions home
+
+-- the responses that are left of the C-FIND that is open in a slot, by the rows and by what was
+-- added to each institution since
+abbrev pub query_at : List Institution → List Row → List (List Added) → Option (List ℕ)
+    → Option HeldQuery → Option OpenQuery
+query_at institutions rows logs None query = open_query_in [] query
+query_at institutions rows logs (Some home) query =
+    query_then home rows (log_of institutions logs home) query
+
+-- A C-FIND is open in a slot only where an institution has its home there, and began when no more
+-- was added to that than now.
+abbrev pub IsBegunAt : List Institution → List (List Added) → Option (List ℕ) → Option HeldQuery
+    → Type 0
+IsBegunAt institutions logs home None = Unit {0}
+IsBegunAt institutions logs None (Some query) = ⊥
+IsBegunAt institutions logs (Some home) (Some query) =
+    (query.since ≤ length (log_of institutions logs home))
+    × (i : Institution) × (institution_named institutions home ≡ Some i) × (i.name ≡ home)
+
+-- The C-FIND that is open in a slot is that of the connection: what it finds are the answers that
+-- there were as it began.
+pub record Asks (institutions : List Institution) (rows : List Row) (logs : List (List Added))
+    (slot : Slot) (c : Connection) : Type 0 where
+  pub begun : IsBegunAt institutions logs slot.home slot.query
+  pub query : query_at institutions rows logs slot.home slot.query ≡ c.query
 
 -- the place of a connection, and the slot there
-pub record IsAt (institutions : List Institution) (slots : Slab Slot) (number place : ℕ)
-    (c : Connection) : Type 0 where
+pub record IsAt (institutions : List Institution) (rows : List Row) (logs : List (List Added))
+    (slots : Slab Slot) (number place : ℕ) (c : Connection) : Type 0 where
   pub slot : Slot
   pub there : get slots place ≡ Some slot
   pub numbered : number ≡ c.number
   pub held : IsHeld institutions slot c
+  pub asks : Asks institutions rows logs slot c
 
 -- whether a slot is held under a number
 abbrev pub has_slot : ℕ → Connections → Bool
@@ -80,22 +113,25 @@ abbrev pub has_search : ℕ → Connections → Bool
 has_search number held = has_query_at (place_under nat_cmp held.places number) held.slots
 
 -- numbers with their places, of the connections that are held
-abbrev pub AreAt : List Institution → Slab Slot → List (ℕ × ℕ) → List Connection → Type 0
-AreAt institutions slots [] [] = Unit {0}
-AreAt institutions slots (e ∷ es) (c ∷ cs) =
-    IsAt institutions slots e.0 e.1 c × AreAt institutions slots es cs
-AreAt institutions slots [] (c ∷ cs) = ⊥
-AreAt institutions slots (e ∷ es) [] = ⊥
+abbrev pub AreAt : List Institution → List Row → List (List Added) → Slab Slot → List (ℕ × ℕ)
+    → List Connection → Type 0
+AreAt institutions rows logs slots [] [] = Unit {0}
+AreAt institutions rows logs slots (e ∷ es) (c ∷ cs) =
+    IsAt institutions rows logs slots e.0 e.1 c × AreAt institutions rows logs slots es cs
+AreAt institutions rows logs slots [] (c ∷ cs) = ⊥
+AreAt institutions rows logs slots (e ∷ es) [] = ⊥
 
 -- The connections that the server holds: in the order of their numbers, none above the newest, and
--- with the counts of the associations that are open among them.
-pub record AreHeld (institutions : List Institution) (held : Connections) (cs : List Connection)
-    : Type 0 where
-  pub at : AreAt institutions held.slots held.places.entries cs
+-- with the counts of the associations that are open among them, and what was added to each
+-- institution while a C-FIND was open there.
+pub record AreHeld (institutions : List Institution) (rows : List Row) (held : Connections)
+    (cs : List Connection) : Type 0 where
+  pub at : AreAt institutions rows held.additions.logs.items held.slots held.places.entries cs
   pub ordered : IsOrdered nat_cmp held.places
   pub below : AllByRecursion (λ (e : ℕ × ℕ). is_above held.newest e.0 ≡ false) held.places.entries
   pub tallied : IsTallied institutions held.tally.counts.items cs
   pub counted : length held.tally.counts.items ≡ length institutions
+  pub logged : length held.additions.logs.items ≡ length institutions
 
 -- An event was answered by the plain server's turn: the reply is its reply, its operations were
 -- made, and what is held are the connections that are then held.
@@ -103,12 +139,22 @@ pub record Turned (institutions : List Institution) (t : EventEffect) (reply : R
     (before after : List Row) (held : Connections) : Type 0 where
   pub replied : reply ≡ t.reply
   pub rows : after ≡ after_all t.operations before
-  pub holds : AreHeld institutions held t.connections
+  pub holds : AreHeld institutions after held t.connections
 
 -- whether a slot has its home at the institution with a name
 abbrev pub is_home : List ℕ → Option (List ℕ) → Bool
 is_home name None = false
 is_home name (Some home) = bytes_eq home name
+
+-- whether a C-FIND is open in it there
+abbrev pub is_searching : List ℕ → Slot → Bool
+is_searching name slot = is_home name slot.home && is_some slot.query
+
+-- no C-FIND is open on a connection of the institution that has one, if one has
+abbrev pub IsUnsearched : Slab Slot → Option Institution → Type 0
+IsUnsearched slots None = ⊥
+IsUnsearched slots (Some i) =
+    (place : ℕ) (slot : Slot) → get slots place ≡ Some slot → is_searching i.name slot ≡ false
 
 -- the counts after the connection of a slot ended, where it has one
 abbrev pub less_home : List Institution → List ℕ → Option (List ℕ) → List ℕ
@@ -175,7 +221,8 @@ pub record Took (institutions : List Institution) (world : World) (c : Connectio
       AreAlike o (answer_by o institutions world c piece)
       institution (connection_answer institution world.rows (held_agreement new.association) c.query taken)
   pub home : old.home ≡ home_of institution (held_agreement old.association)
-  pub query : open_query_in new.query ≡ open_query_in old.query
+  pub query : new.query ≡ old.query
+  pub stays : (old.home ≡ None) ⊎ (new.home ≡ old.home)
   pub held : taken.step.close ≡ false → IsHeld institutions new (with_piece c piece c.query)
       × (new.home ≡ home_of institution (held_agreement new.association))
   pub listed : (i : Institution) → institution ≡ Some i → Contains institutions i

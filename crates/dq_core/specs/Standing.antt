@@ -40,7 +40,7 @@ pub record StandsFor {Tables : Type 0} (state : Tables → State) (rows : List R
     (server : Standing Tables) (events : List Event) : Type 0 where
   pub unspent : server.spent ≡ false
   pub newest : server.newest ≡ newest_after None events
-  pub holds : AreHeld server.institutions server.slots
-      (world_after server.institutions rows events).connections
+  pub holds : AreHeld server.institutions (world_after server.institutions rows events).rows
+      server.slots (world_after server.institutions rows events).connections
   pub keeps : (state server.tables).rows ≡ (world_after server.institutions rows events).rows
   pub working : (state server.tables).failed ≡ false

@@ -40,7 +40,11 @@ impl Model for AnswerQueue {
 }
 
 /// The octets of an answer. Those of one with a length that can't be written want memory.
-fn answer_octets(alloc: Global, answer: &DataSet, syntax: Syntax) -> Result<Vec<u8>, AllocError>
+pub(crate) fn answer_octets(
+    alloc: Global,
+    answer: &DataSet,
+    syntax: Syntax,
+) -> Result<Vec<u8>, AllocError>
     ensures { IfOk result (λ octets. octets.items ≡ canonical syntax answer.now) }
 {
     if !can_be_written(answer, syntax) {

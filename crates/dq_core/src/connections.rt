@@ -1,12 +1,13 @@
 //! The connections that are held.
 
-ghost use Rattle.std.specs.Prelude.{◌≡◌, ◌≢◌, ◌<◌, ◌^◌, ◌⊎◌, List, [], Option, None, false, IfOk, IfErr, OnErr, IsOk, IsTrue, is_some, length, ◌&&◌, not};
+ghost use Rattle.std.specs.Prelude.{◌≡◌, ◌≢◌, ◌<◌, ◌^◌, ◌⊎◌, ℕ, List, [], Option, None, false, IfOk, IfErr, OnErr, IsOk, IsTrue, is_some, length, ◌&&◌, not};
 ghost use Rattle.std.specs.Option.{option_copied};
 ghost use Rattle.std.specs.Ordering.{nat_cmp};
 ghost use Rattle.std.specs.Map.{remove_entry};
 ghost use Rattle.std.specs.BTreeMap.{IsOrdered, is_at};
 ghost use Rattle.std.specs.BTreeMap as map;
-ghost use Rattle.slab.specs.Slab.{get, Updates};
+ghost use Rattle.std.specs.List.{list_any};
+ghost use Rattle.slab.specs.Slab.{get, entries, Updates};
 ghost use Rattle.dq_pdu.specs.Inboxes.{InboxAfter};
 ghost use Rattle.dq_config.specs.declared.config.Institution.{Institution};
 ghost use Rattle.dq_core.specs.declared.event.Event.{Event};
@@ -15,14 +16,19 @@ ghost use Rattle.dq_core.specs.Connections.{Connection, connection_in, is_pendin
 ghost use Rattle.dq_core.specs.Histories.{is_above};
 ghost use Rattle.dq_core.specs.Shared.{World, turn};
 ghost use Rattle.dq_core.specs.Stepping.{Goes, MayLeaveAfter, IsPartOf};
+ghost use Rattle.dq_tables.specs.declared.row.Row.{Row};
+ghost use Rattle.dq_core.specs.declared.slot.Slot.{Slot as TheSlot};
+ghost use Rattle.dq_core.specs.Additions.{log_at, with_log, owner_place};
 ghost use Rattle.dq_core.specs.Tallies.{IsTallied, tally_of_name};
-ghost use Rattle.dq_core.specs.Slots.{has_slot, has_search, AreHeld, IsHeld, StandsAt, Turned, Took, owner_at, verdict_for, without_home};
+ghost use Rattle.dq_core.specs.Slots.{IsUnsearched, is_searching, has_slot, has_search, AreHeld, IsHeld, StandsAt, Turned, Took, owner_at, verdict_for, without_home};
 
+use crate::additions::Additions;
 use crate::event::Reply;
 use crate::fault::Fault;
 use crate::notes::{Heard, Notes};
 use crate::slot::{Called, Slot, Taken};
-use crate::tally::Tally;
+use crate::tally::{Tally, place_of};
+use dq_archive::Added;
 use dq_assoc::Verdict;
 use dq_assoc::laws::{a_longer_stream_adds_inputs, an_association_after_pdus};
 use dq_config::laws::{a_name_is_of_one, a_pair_is_of_one};
@@ -39,7 +45,7 @@ const MOST_SPARES: usize = 16;
 
 /// The connections that are held, and the configuration that says whose they are. The slot of each
 /// stands at a place that does not change, which is found by its number. A few slots of connections
-/// that ended are used again.
+/// that ended are used again. While a C-FIND is open at an institution, what is added there is kept.
 #[derive(Drop)]
 pub(crate) struct Connections {
     pub config: Config,
@@ -47,6 +53,7 @@ pub(crate) struct Connections {
     pub places: BTreeMap<u64, usize>,
     pub spares: Vec<Slot>,
     pub tally: Tally,
+    pub additions: Additions,
     pub newest: Option<u64>,
 }
 
@@ -54,16 +61,18 @@ impl Connections {
     /// None is held.
     pub(crate) fn new(alloc: Global, config: Config) -> Result<Self, AllocError>
         ensures config { IfOk result (λ held. held.config ≡ config) }
-        ensures none { IfOk result (λ held. AreHeld config held []) }
+        ensures none { IfOk result (λ held. (rows : List Row) → AreHeld config rows held []) }
         ensures newest { IfOk result (λ held. held.newest ≡ None) }
     {
         let tally = Tally::new(alloc, &config)?;
+        let additions = Additions::new(alloc, &config)?;
         Ok(Connections {
             config,
             slots: Slab::new(alloc),
             places: BTreeMap::new(alloc),
             spares: Vec::with_capacity(alloc, MOST_SPARES)?,
             tally,
+            additions,
             newest: None,
         })
     }
@@ -94,8 +103,8 @@ impl Connections {
 
     /// Whether a connection is held under a number.
     pub(crate) fn is_held(&self, number: u64) -> bool
-        ensures stands { (connections : List Connection) →
-            AreHeld self.now.config self.now connections →
+        ensures stands { (rows : List Row) (connections : List Connection) →
+            AreHeld self.now.config rows self.now connections →
             result ≡ is_some (connection_in number connections) }
         ensures told { result ≡ has_slot number self.now }
     {
@@ -104,8 +113,8 @@ impl Connections {
 
     /// Whether a C-FIND is open on the connection that is held under a number.
     pub(crate) fn is_pending(&self, number: u64) -> bool
-        ensures stands { (connections : List Connection) →
-            AreHeld self.now.config self.now connections →
+        ensures stands { (rows : List Row) (connections : List Connection) →
+            AreHeld self.now.config rows self.now connections →
             result ≡ is_pending number connections }
         ensures told { result ≡ has_search number self.now }
     {
@@ -126,6 +135,7 @@ impl Connections {
         ensures ordered { IsOrdered nat_cmp self.new.places }
         ensures config { self.new.config ≡ self.old.config }
         ensures tally { self.new.tally ≡ self.old.tally }
+        ensures additions { self.new.additions ≡ self.old.additions }
         ensures newest { self.new.newest ≡ self.old.newest }
     {
         self.places.remove(&number);
@@ -138,7 +148,7 @@ impl Connections {
     pub(crate) fn open(&mut self, alloc: Global, number: u64) -> Result<Reply, AllocError>
         requires { IsTrue (is_above self.old.newest number) }
         ensures turned { (world : World) →
-            AreHeld self.old.config self.old world.connections →
+            AreHeld self.old.config world.rows self.old world.connections →
             IfOk result (λ reply.
             Turned self.old.config (turn self.old.config world (Event.Open number)) reply
             world.rows world.rows self.new) }
@@ -162,53 +172,54 @@ impl Connections {
     ) -> Result<Reply, Fault>
         ensures goes { Goes (T.state tables.old) (T.state tables.new) result }
         ensures turned { (world : World) →
-            AreHeld self.old.config self.old world.connections →
+            AreHeld self.old.config world.rows self.old world.connections →
             (T.state tables.old).rows ≡ world.rows → (T.state tables.new).honest →
             IfOk result (λ reply. Turned self.old.config
             (turn self.old.config world (Event.Piece number piece.now)) reply
             world.rows (T.state tables.new).rows self.new) }
         ensures part { (world : World) →
-            AreHeld self.old.config self.old world.connections →
+            AreHeld self.old.config world.rows self.old world.connections →
             (T.state tables.old).rows ≡ world.rows → (T.state tables.new).honest →
             OnErr result (
             IsPartOf (turn self.old.config world (Event.Piece number piece.now)).operations
             world.rows (T.state tables.new).rows
             (MayLeaveAfter (T.state tables.old) (T.state tables.new))) }
         ensures fault { IfErr result (λ fault. fault ≢ Fault.Stopped) }
-        ensures quiet { (connections : List Connection) →
-            AreHeld self.old.config self.old connections →
+        ensures quiet { (rows : List Row) (connections : List Connection) →
+            AreHeld self.old.config rows self.old connections →
             (piece.now ≡ []) ⊎ (connection_in number connections ≡ None) → IsOk result }
         ensures always { (piece.now ≡ []) ⊎ (has_slot number self.old ≡ false) → IsOk result }
         ensures config { self.new.config ≡ self.old.config }
         ensures newest { self.new.newest ≡ self.old.newest }
     {
         an_association_after_pdus();
+        a_name_is_of_one();
+        self.config.is_sound();
         self.is_sound();
+        let alloc = tables.alloc();
         let Some(place) = self.place_of(number) else {
             return Ok(Reply::Ignored);
         };
         if piece.is_empty() {
-            return Ok(octets_reply(number, Vec::new(tables.alloc()), false));
+            return Ok(octets_reply(number, Vec::new(alloc), false));
         }
         let Some(slot) = self.slots.get_mut(place) else {
             return Ok(Reply::Ignored);
         };
         let was_open = slot.home.is_some();
-        let (owner, taken, heard) = take_piece(
-            tables.alloc(),
-            &self.config,
-            &self.tally,
-            slot,
-            piece,
-        )?;
+        let (owner, taken, heard) = take_piece(alloc, &self.config, &self.tally, slot, piece)?;
         let close = taken.step.close;
         let is_open = stays_open(slot, close);
         notes.turn_to(number);
-        if !was_open {
-            note_home(notes, slot, heard);
-        }
+        note_home(notes, slot, heard, was_open);
         let ending = heard.ending(&taken.step);
-        let octets = slot.answer(owner, taken, tables, notes)?;
+        let at = owner_place(&self.config, owner);
+        let mut log = take_log(alloc, &self.slots, &mut self.additions, at, owner);
+        let Some(slot) = self.slots.get_mut(place) else {
+            return Ok(Reply::Ignored);
+        };
+        let octets = slot.answer(owner, taken, tables, &mut log, notes)?;
+        self.additions.put(at, log);
         notes.close(ending);
         self.tally.retally(&self.config, owner, was_open, is_open);
         if close {
@@ -219,13 +230,27 @@ impl Connections {
 
     /// Answers a pull with the next page of the C-FIND that is open. Where none is, it takes no
     /// memory.
-    pub(crate) fn answer_pull(&mut self, alloc: Global, number: u64) -> Result<Reply, AllocError>
+    pub(crate) fn answer_pull<T: Tables>(
+        &mut self,
+        tables: &mut T,
+        number: u64,
+        notes: &mut Notes,
+    ) -> Result<Reply, Fault>
+        ensures goes { Goes (T.state tables.old) (T.state tables.new) result }
         ensures turned { (world : World) →
-            AreHeld self.old.config self.old world.connections → IfOk result (λ reply.
+            AreHeld self.old.config world.rows self.old world.connections →
+            (T.state tables.old).rows ≡ world.rows → (T.state tables.new).honest →
+            IfOk result (λ reply.
             Turned self.old.config (turn self.old.config world (Event.Pull number)) reply
-            world.rows world.rows self.new) }
-        ensures quiet { (connections : List Connection) →
-            AreHeld self.old.config self.old connections →
+            world.rows (T.state tables.new).rows self.new) }
+        ensures part { (world : World) → (T.state tables.old).rows ≡ world.rows →
+            (T.state tables.new).honest → OnErr result (
+            IsPartOf (turn self.old.config world (Event.Pull number)).operations
+            world.rows (T.state tables.new).rows
+            (MayLeaveAfter (T.state tables.old) (T.state tables.new))) }
+        ensures fault { IfErr result (λ fault. fault ≢ Fault.Stopped) }
+        ensures quiet { (rows : List Row) (connections : List Connection) →
+            AreHeld self.old.config rows self.old connections →
             is_pending number connections ≡ false → IsOk result }
         ensures always { has_search number self.old ≡ false → IsOk result }
         ensures config { self.new.config ≡ self.old.config }
@@ -237,14 +262,15 @@ impl Connections {
         let Some(slot) = self.slots.get_mut(place) else {
             return Ok(Reply::Ignored);
         };
-        let octets = slot.send_page(alloc)?;
+        notes.turn_to(number);
+        let octets = slot.send_page(&self.config, &self.additions, tables, notes)?;
         Ok(octets_reply(number, octets, false))
     }
 
     /// Ends a connection.
     pub(crate) fn end(&mut self, number: u64) -> Reply
         ensures turned { (world : World) →
-            AreHeld self.old.config self.old world.connections →
+            AreHeld self.old.config world.rows self.old world.connections →
             Turned self.old.config (turn self.old.config world (Event.End number)) result
             world.rows world.rows self.new }
         ensures config { self.new.config ≡ self.old.config }
@@ -316,6 +342,49 @@ fn verdict_for(config: &Config, tally: &Tally, institution: Option<&Institution>
     }
 }
 
+/// Where the institution that has a connection stands in the configuration.
+fn owner_place(config: &Config, owner: Option<&Institution>) -> Option<usize>
+    ensures { result ≡ owner_place config.now (option_copied owner.entry) }
+{
+    place_of(config, owner?.name.as_slice())
+}
+
+/// Whether a C-FIND is open on a connection of an institution.
+fn is_searched(slots: &Slab<Slot>, name: &[u8]) -> bool
+    ensures { result ≡ list_any (λ (e : ℕ × TheSlot). is_searching name.now e.1)
+        (entries slots.now) }
+{
+    for entry in slots.iter() {
+        let (_, slot) = entry;
+        if slot.is_searching(name) {
+            return true;
+        }
+    }
+    false
+}
+
+/// Takes the log of an institution's additions, which is begun anew where no C-FIND is open there.
+fn take_log(
+    alloc: Global,
+    slots: &Slab<Slot>,
+    additions: &mut Additions,
+    place: Option<usize>,
+    owner: Option<&Institution>,
+) -> Listed<Added>
+    ensures left { additions.new.logs.items ≡ with_log additions.old.logs.items place [] }
+    ensures taken { (result ≡ log_at additions.old.logs.items place)
+        ⊎ IsUnsearched slots.now (option_copied owner.entry) }
+{
+    let log = additions.take(alloc, place);
+    let Some(institution) = owner else {
+        return log;
+    };
+    if is_searched(slots, institution.name.as_slice()) {
+        return log;
+    }
+    Listed::empty(alloc)
+}
+
 /// Whether a connection has an association after what was taken.
 fn stays_open(slot: &Slot, close: bool) -> bool
     ensures { result ≡ (is_some slot.now.home && not close) }
@@ -336,8 +405,11 @@ fn end_home(config: &Config, tally: &mut Tally, slot: Option<&Slot>)
     }
 }
 
-/// Notes the association that a connection has, if it has one.
-fn note_home(notes: &mut Notes, slot: &Slot, heard: Heard) {
+/// Notes the association that a connection has, if it has one and had none before.
+fn note_home(notes: &mut Notes, slot: &Slot, heard: Heard, was_open: bool) {
+    if was_open {
+        return;
+    }
     if let Some(home) = &slot.home {
         notes.accept(home, slot.association.agreement(), heard);
     }

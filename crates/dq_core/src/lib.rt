@@ -1,7 +1,9 @@
 //! The server: events in, replies out.
 #![tactic(auto)]
 
+mod additions;
 mod answer_queue;
+mod answers;
 mod brought_octets;
 mod connections;
 mod dimse_operation;

@@ -85,6 +85,15 @@ pub struct Note {
     pub noted: Noted,
 }
 
+/// What is noted of a message while its responses are sent: the service, how many answers were sent,
+/// and what a C-FIND asks for.
+#[derive(Drop)]
+pub(crate) struct ServedNote {
+    pub service: Service,
+    pub answers: usize,
+    pub sought: Option<Sought>,
+}
+
 /// Notes in order, and how many there was no memory for.
 #[derive(Drop)]
 pub struct Notes {
@@ -185,20 +194,41 @@ impl Notes {
         self.is_kept
     }
 
-    /// A message was served.
-    pub(crate) fn serve(
+    /// What is to be noted of a message of a service, once its last response is sent. Nothing is where
+    /// nothing is noted, or where there is no memory for it.
+    pub(crate) fn begin(
         &mut self,
         service: Service,
-        status: u16,
-        answers: usize,
         identifier: Option<&DataSet>,
-    ) {
+    ) -> Option<ServedNote> {
         let sought = match identifier {
             Some(identifier) => match sought_in(self.alloc, service, identifier) {
                 Ok(sought) => Some(sought),
-                Err(AllocError) => return self.lose(),
+                Err(AllocError) => {
+                    self.lose();
+                    return None;
+                }
             },
             None => None,
+        };
+        Some(ServedNote {
+            service,
+            answers: 0,
+            sought,
+        })
+    }
+
+    /// The last response to a message was sent, with a status.
+    pub(crate) fn serve(&mut self, note: Option<ServedNote>, status: u16) {
+        let Some(
+            ServedNote {
+                service,
+                answers,
+                sought,
+            },
+        ) = note
+        else {
+            return;
         };
         self.put(Noted::Served {
             service,

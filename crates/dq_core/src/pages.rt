@@ -1,27 +1,35 @@
 //! The responses to a message, a page at a time (PS3.4 sections C.4.1 and K.4.1).
-ghost use Rattle.std.specs.Prelude.{◌≡◌, ◌++◌, ◌∷◌, [], take, true, false, None, IfOk, OnOk};
+ghost use Rattle.std.specs.Prelude.{◌≡◌, ◌≤◌, ◌++◌, ◌∷◌, [], List, length, take, true, false, Some, None, option_map, IfOk, OnOk};
 ghost use Rattle.dq_dimse.specs.LentCommands.{command_of_lent};
-ghost use Rattle.dq_core.specs.Services.{is_of_instance, named_instance, response_command, response, pending_status, responses};
+ghost use Rattle.dq_core.specs.Services.{is_of_instance, named_instance, response_command, response, pending_status};
 ghost use Rattle.dq_core.specs.Pages.{responses_octets, rest, without_first, page, cancel_reaction};
-ghost use Rattle.dq_core.specs.Queries.{open_query_of, open_query_in, command_octets};
+ghost use Rattle.dq_tables.specs.Rows.{Record};
+ghost use Rattle.dq_archive.specs.Pasts.{state_in, records_in};
+ghost use Rattle.dq_core.specs.declared.pages.OpenQuery.{OpenQuery as HeldQuery};
+ghost use Rattle.dq_core.specs.Queries.{at_hand, open_query_of, open_query_in, command_octets, LooksBack};
 
-use crate::answer_queue::AnswerQueue;
-use dq_assoc::{AgreedContext, Agreement, PeerLimit, SopClass};
+use crate::answers::Answers;
+use crate::notes::{Notes, ServedNote};
+use dq_archive::Past;
+use dq_assoc::{AgreedContext, PeerLimit, SopClass};
 use dq_dimse::{Command, LentCommand, append_command, append_data_set, command_field, status};
-use dq_match::Found;
+use dq_tables::{TableFault, Tables};
 use std::alloc::{AllocError, Global};
 
 /// How many pending responses are sent at once.
 const PAGE_LENGTH: usize = 64;
 
 /// Responses that were not sent: the context and the command of the message that they answer, the
-/// longest PDU that the peer takes, and the answers that are left.
+/// longest PDU that the peer takes, the answers that are left, how much its institution's log of
+/// additions had as it began, and what is to be noted of it.
 #[derive(Drop)]
 pub(crate) struct OpenQuery {
     pub context: AgreedContext,
     pub command: Command,
     pub limit: PeerLimit,
-    pub pages: AnswerQueue,
+    pub answers: Answers,
+    pub since: usize,
+    pub note: Option<ServedNote>,
 }
 
 /// Whether the response to an operation names an instance (PS3.7 sections 9.3.1.2, 10.3.3.2 and
@@ -103,28 +111,6 @@ impl Recipient<'_> {
 }
 
 impl OpenQuery {
-    /// The responses to a message on a context, of which none was sent.
-    pub(crate) fn new(
-        alloc: Global,
-        agreement: &Agreement,
-        context: AgreedContext,
-        command: Command,
-        found: Found,
-    ) -> Self
-        ensures { open_query_of result ≡ record {
-          context = context.id;
-          limit = agreement.now.limit;
-          left = responses context command found;
-        } }
-    {
-        OpenQuery {
-            context,
-            command,
-            limit: agreement.limit,
-            pages: AnswerQueue::new(alloc, found),
-        }
-    }
-
     fn recipient(&self, alloc: Global) -> Recipient<'_>
         ensures { (result.context ≡ self.now.context)
             × (result.command.now ≡ self.now.command) × (result.limit ≡ self.now.limit) }
@@ -137,41 +123,54 @@ impl OpenQuery {
         }
     }
 
-    /// Sends pending responses, so many or all that are left.
+    /// Sends so many of the pending responses that are at hand.
     fn send_pending(
         &mut self,
         alloc: Global,
         count: usize,
         out: &mut Vec<u8>,
     ) -> Result<(), AllocError>
-        ensures sent { OnOk result (out.new.items ≡ out.old.items
-            ++ responses_octets (open_query_of self.old) (take count (open_query_of self.old).left.pending)) }
-        ensures left { OnOk result
-            (open_query_of self.new ≡ without_first count (open_query_of self.old)) }
+        requires { count ≤ length (at_hand self.old.answers) }
+        ensures sent { (records : List Record) → OnOk result (out.new.items ≡ out.old.items
+            ++ responses_octets (open_query_of records self.old)
+            (take count (open_query_of records self.old).left.pending)) }
+        ensures left { (records : List Record) → OnOk result (open_query_of records self.new
+            ≡ without_first count (open_query_of records self.old)) }
+        ensures since { self.new.since ≡ self.old.since }
     {
         if count == 0 {
             return Ok(());
         }
-        let status = pending_status(self.pages.optional());
+        let status = pending_status(self.answers.optional());
         // The same before each answer.
         let mut command = Vec::new(alloc);
         self.recipient(alloc)
             .put_command(status, true, &mut command)?;
         for _ in 0..count {
-            let next = self.pages.next_octets(alloc, self.context.syntax)?;
+            let next = self.answers.next_octets(alloc, self.context.syntax)?;
             let Some(octets) = next else {
                 return Ok(());
             };
             out.extend_from_slice(&command)?;
             append_data_set(out, self.context.id, &octets, self.limit.octets())?;
         }
+        self.count(count);
         Ok(())
+    }
+
+    /// Counts answers that were sent, for the note.
+    fn count(&mut self, answers: usize)
+        ensures { self.new ≡ record self.old { note = self.new.note } }
+    {
+        if let Some(note) = &mut self.note {
+            note.answers = note.answers.saturating_add(answers);
+        }
     }
 
     /// Sends the final response, with a status.
     fn send_final(&self, alloc: Global, status: u16, out: &mut Vec<u8>) -> Result<(), AllocError>
-        ensures { OnOk result (out.new.items ≡ out.old.items
-            ++ responses_octets (open_query_of self.now)
+        ensures { (records : List Record) → OnOk result (out.new.items ≡ out.old.items
+            ++ responses_octets (open_query_of records self.now)
             (response self.now.context.class self.now.command status None ∷ [])) }
     {
         self.recipient(alloc).put_command(status, false, out)?;
@@ -179,32 +178,48 @@ impl OpenQuery {
     }
 
     /// Sends all that is left.
-    pub(crate) fn send_rest(mut self, alloc: Global, out: &mut Vec<u8>) -> Result<(), AllocError>
-        ensures { OnOk result (out.new.items ≡ out.old.items ++ rest (open_query_of self)) }
+    pub(crate) fn send_rest<T: Tables>(
+        mut self,
+        archive: &mut Past<'_, T>,
+        out: &mut Vec<u8>,
+        notes: &mut Notes,
+    ) -> Result<(), TableFault>
+        ensures looks { LooksBack T.state archive.old archive.new result }
+        ensures sent { (state_in T.state archive.new).honest → OnOk result (out.new.items
+            ≡ out.old.items ++ rest (open_query_of (records_in T.state archive.old) self)) }
     {
-        let count = self.pages.left();
-        self.send_pending(alloc, count, out)?;
-        self.send_final(alloc, self.pages.status(), out)?;
+        self.answers.find(archive, usize::MAX)?;
+        let count = self.answers.at_hand();
+        self.send_pending(archive.alloc, count, out)?;
+        let status = self.answers.status();
+        self.send_final(archive.alloc, status, out)?;
+        notes.serve(self.note, status);
         Ok(())
     }
 
     /// Sends a page: the next pending responses, and the final one where none of them is left.
-    /// Gives back what is left, held as octets.
-    pub(crate) fn send_page(
+    /// Gives back what is left; answers that were all found are then held as octets.
+    pub(crate) fn send_page<T: Tables>(
         mut self,
-        alloc: Global,
+        archive: &mut Past<'_, T>,
         out: &mut Vec<u8>,
-    ) -> Result<Option<Self>, AllocError>
-        ensures { IfOk result (λ query.
-            (out.new.items ≡ out.old.items ++ (page (open_query_of self)).octets)
-            × (open_query_in query ≡ (page (open_query_of self)).query)) }
+        notes: &mut Notes,
+    ) -> Result<Option<Self>, TableFault>
+        ensures looks { LooksBack T.state archive.old archive.new result }
+        ensures sent { (state_in T.state archive.new).honest → IfOk result (λ query.
+            let records = records_in T.state archive.old in
+            (out.new.items ≡ out.old.items ++ (page (open_query_of records self)).octets)
+            × (open_query_in records query ≡ (page (open_query_of records self)).query)) }
+        ensures since { IfOk result (λ query. (left : HeldQuery) → query ≡ Some left
+            → left.since ≡ self.since) }
     {
-        if self.pages.left() <= PAGE_LENGTH {
-            self.send_rest(alloc, out)?;
+        self.answers.find(archive, PAGE_LENGTH + 1)?;
+        if self.answers.at_hand() <= PAGE_LENGTH {
+            self.send_rest(archive, out, notes)?;
             return Ok(None);
         }
-        self.send_pending(alloc, PAGE_LENGTH, out)?;
-        self.pages.pack(alloc)?;
+        self.send_pending(archive.alloc, PAGE_LENGTH, out)?;
+        self.answers.pack(archive.alloc)?;
         Ok(Some(self))
     }
 
@@ -215,16 +230,20 @@ impl OpenQuery {
         alloc: Global,
         id: u16,
         out: &mut Vec<u8>,
+        notes: &mut Notes,
     ) -> Result<Option<Self>, AllocError>
-        ensures { IfOk result (λ query.
-            let reaction = cancel_reaction id (open_query_of self) in
+        ensures sent { (records : List Record) → IfOk result (λ query.
+            let reaction = cancel_reaction id (open_query_of records self) in
             (out.new.items ≡ out.old.items ++ reaction.octets)
-            × (open_query_in query ≡ reaction.query)) }
+            × (open_query_in records query ≡ reaction.query)) }
+        ensures since { IfOk result (λ query. (left : HeldQuery) → query ≡ Some left
+            → left.since ≡ self.since) }
     {
         if id != self.command.id {
             return Ok(Some(self));
         }
         self.send_final(alloc, status::CANCEL, out)?;
+        notes.serve(self.note, status::CANCEL);
         Ok(None)
     }
 }

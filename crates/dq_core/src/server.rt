@@ -96,7 +96,7 @@ impl<T: Tables> Server<T> {
 
     /// A server over the rows that are there, with connections of which none is held yet.
     fn over(alloc: Global, connections: Connections, tables: T) -> Self
-        requires none { AreHeld connections.config connections [] }
+        requires none { (rows : List Row) → AreHeld connections.config rows connections [] }
         requires first { connections.newest ≡ None }
         requires working { (T.state tables).failed ≡ false }
         ensures stands { StandsFor T.state (T.state tables).rows result [] }
@@ -348,20 +348,20 @@ impl<T: Tables> Server<T> {
         requires { Opens self.old.newest event }
         ensures goes { Goes (T.state self.old.tables) (T.state self.new.tables) result }
         ensures turned { (world : World) →
-            AreHeld self.old.institutions self.old.slots world.connections →
+            AreHeld self.old.institutions world.rows self.old.slots world.connections →
             (T.state self.old.tables).rows ≡ world.rows → (T.state self.new.tables).honest →
             IfOk result (λ reply. Turned self.old.institutions
             (turn self.old.institutions world event) reply world.rows (T.state self.new.tables).rows
             self.new.slots) }
         ensures part { (world : World) →
-            AreHeld self.old.institutions self.old.slots world.connections →
+            AreHeld self.old.institutions world.rows self.old.slots world.connections →
             (T.state self.old.tables).rows ≡ world.rows → (T.state self.new.tables).honest →
             OnErr result (IsPartOf (turn self.old.institutions world event).operations world.rows
             (T.state self.new.tables).rows
             (MayLeaveAfter (T.state self.old.tables) (T.state self.new.tables))) }
         ensures newest { OnOk result (self.new.newest ≡ newest_after self.old.newest (event ∷ [])) }
         ensures quiet { (world : World) →
-            AreHeld self.old.institutions self.old.slots world.connections →
+            AreHeld self.old.institutions world.rows self.old.slots world.connections →
             TakesNoMemory world.connections event → IsOk result }
         ensures always { IsQuiet self.old.slots event → IsOk result }
         ensures keeps { (self.new.institutions ≡ self.old.institutions)
@@ -379,7 +379,10 @@ impl<T: Tables> Server<T> {
                 self.notes.end(number);
                 Ok(self.connections.end(number))
             }
-            Event::Pull(number) => Ok(self.connections.answer_pull(self.alloc, number)?),
+            Event::Pull(number) => {
+                self.connections
+                    .answer_pull(&mut self.tables, number, &mut self.notes)
+            }
             Event::Schedule { inst, octets } => schedule_entry(
                 &self.connections.config,
                 inst.as_slice(),
@@ -482,7 +485,7 @@ fn room_for(
     count: usize,
 ) -> Result<(Connections, Vec<Reply>), AllocError>
     ensures config { IfOk result (λ room. room.0.config ≡ config) }
-    ensures none { IfOk result (λ room. AreHeld config room.0 []) }
+    ensures none { IfOk result (λ room. (rows : List Row) → AreHeld config rows room.0 []) }
     ensures newest { IfOk result (λ room. room.0.newest ≡ None) }
     ensures empty { IfOk result (λ room. room.1.items ≡ []) }
     ensures room { IfOk result (λ room. count ≤ vec_capacity room.1) }

@@ -1,33 +1,41 @@
 //! What messages are answered with, by the service of their context.
 
-ghost use Rattle.std.specs.Prelude.{◌≡◌, ◌≢◌, ◌++◌, [], List, true, IfOk, IfErr, OnErr, None, Some};
+ghost use Rattle.std.specs.Prelude.{◌≡◌, ◌≢◌, ◌++◌, [], List, drop, true, IfOk, IfErr, OnOk, OnErr, None, Some};
 ghost use Rattle.dq_dimse.specs.Holding.{StandForAll, StandsFor, StandsOn, plain_message};
 ghost use Rattle.dq_dimse.specs.Received.{Message as Received};
 ghost use Rattle.dq_assoc.specs.Holding.{accepted_by};
 ghost use Rattle.dq_config.specs.Limits.{limits_of};
-ghost use Rattle.dq_tables.specs.Rows.{of};
+ghost use Rattle.dq_tables.specs.Rows.{Record, of};
+ghost use Rattle.dq_find.specs.Lazily.{found_then};
 ghost use Rattle.dq_core.specs.Services.{command_field_of, status_alone, operation_outcome, message_outcome};
 ghost use Rattle.dq_core.specs.Stepping.{Goes, MayLeaveAfter};
+ghost use Rattle.dq_tables.specs.Keeping.{Reads};
+ghost use Rattle.dq_core.specs.Pages.{rest, page};
+ghost use Rattle.dq_core.specs.declared.pages.OpenQuery.{OpenQuery as HeldQuery};
 ghost use Rattle.dq_core.specs.Doing.{Operates, Did, DidPart, Taken as Pure, served_answer, messages_answer, taken_answer};
-ghost use Rattle.dq_core.specs.Queries.{open_query_in};
+ghost use Rattle.dq_archive.specs.Later.{IsTold};
+ghost use Rattle.dq_core.specs.Queries.{found_left, open_query_of, records_since, query_then, IsBegun};
 ghost use Rattle.dq_core.specs.Slots.{IsTaken};
 
+use crate::answer_queue::AnswerQueue;
+use crate::answers::Answers;
 use crate::dimse_operation::DimseOperation;
 use crate::fault::Fault;
-use crate::notes::Notes;
+use crate::notes::{Notes, ServedNote};
 use crate::pages::OpenQuery;
 use crate::slot::Taken;
+use dq_archive::{Added, Past};
 use dq_assoc::{AgreedContext, Agreement};
 use dq_config::Institution;
 use dq_dataset::{DataSet, Syntax};
 use dq_dimse::{Message, command_field, status};
-use dq_find::find;
+use dq_find::{LazyAnswers, begin_find};
 use dq_list::Listed;
 use dq_match::Found;
 use dq_mpps::{create, set};
-use dq_store::store;
-use dq_tables::Tables;
-use dq_tables::laws::own_records_are_edited;
+use dq_store::store_telling;
+use dq_tables::laws::{honest_rows_are_sound, own_records_are_edited};
+use dq_tables::{TableFault, Tables};
 use dq_worklist::query;
 use std::alloc::{AllocError, Global};
 
@@ -38,6 +46,13 @@ pub(crate) struct Provider<'a> {
     pub agreement: &'a Agreement,
 }
 
+/// The institution that has a connection, and what was added there while searches were open.
+#[derive(Clone, Copy)]
+pub(crate) struct Home<'a> {
+    pub institution: &'a Institution,
+    pub log: &'a [Added],
+}
+
 /// What a connection is answered: octets, and the C-FIND that is open on it afterwards.
 #[derive(Drop)]
 pub(crate) struct Answered {
@@ -46,13 +61,33 @@ pub(crate) struct Answered {
 }
 
 /// A status without answers.
-fn status_alone(alloc: Global, status: u16) -> Found
-    ensures { result ≡ status_alone status }
+fn status_alone(alloc: Global, status: u16) -> Answers
+    ensures { (records : List Record) → found_left records result ≡ status_alone status }
 {
-    Found {
-        status,
-        optional: false,
-        answers: Listed::empty(alloc),
+    all_found(
+        alloc,
+        Found {
+            status,
+            optional: false,
+            answers: Listed::empty(alloc),
+        },
+    )
+}
+
+/// Answers that were all found.
+fn all_found(alloc: Global, found: Found) -> Answers
+    ensures { (records : List Record) → found_left records result ≡ found }
+{
+    Answers::Found(AnswerQueue::new(alloc, found))
+}
+
+/// The answers to a query that began, or the status that refuses it.
+fn sought(alloc: Global, asked: Result<LazyAnswers, u16>) -> Answers
+    ensures { (records : List Record) → found_left records result ≡ found_then asked records }
+{
+    match asked {
+        Ok(lazy) => Answers::Sought(lazy),
+        Err(status) => status_alone(alloc, status),
     }
 }
 
@@ -68,7 +103,17 @@ fn identifier(
     Ok(message.identifier(alloc, syntax)?.ok())
 }
 
-impl Provider<'_> {
+impl<'a> Provider<'a> {
+    /// Where its searches look.
+    fn home(self, log: &'a [Added]) -> Home<'a>
+        ensures { (result.institution ≡ self.entry.institution) × (result.log ≡ log.entry) }
+    {
+        Home {
+            institution: self.institution,
+            log,
+        }
+    }
+
     /// Makes the edits of an operation, and answers it. Each operation has its place here.
     fn perform<T: Tables>(
         self,
@@ -76,37 +121,47 @@ impl Provider<'_> {
         message: &Message,
         syntax: Syntax,
         tables: &mut T,
-    ) -> Result<Found, Fault>
+        log: &mut Listed<Added>,
+    ) -> Result<Answers, Fault>
         requires { command_field_of operation ≡ message.now.command.code }
         ensures serves { (sent : Received) → StandsFor syntax message.now sent →
             Operates (T.state tables.old) (T.state tables.new) self.entry.institution.now.name
             (operation_outcome operation self.entry.agreement.now.called syntax
             (limits_of self.entry.institution.now) sent) result }
+        ensures told { (T.state tables.new).honest → OnOk result
+            (IsTold self.entry.institution.now.name (T.state tables.old).rows
+            (T.state tables.new).rows log.old log.new) }
         ensures goes { Goes (T.state tables.old) (T.state tables.new) result }
         ensures fault { IfErr result (λ fault. fault ≢ Fault.Stopped) }
     {
+        honest_rows_are_sound::<T>();
         let Provider {
             institution,
             agreement,
         } = self;
+        let alloc = tables.alloc();
         match operation {
-            DimseOperation::Echo => Ok(status_alone(tables.alloc(), status::SUCCESS)),
+            DimseOperation::Echo => Ok(status_alone(alloc, status::SUCCESS)),
             DimseOperation::Store => {
-                let status = store(tables, institution, message, syntax)?;
-                Ok(status_alone(tables.alloc(), status))
+                let status = store_telling(tables, institution, message, syntax, log)?;
+                Ok(status_alone(alloc, status))
             }
             DimseOperation::FindStudies => {
                 let called = &agreement.called;
-                Ok(find(tables, institution, called, message, syntax)?)
+                let asked = begin_find(tables, institution, called, message, syntax)?;
+                Ok(sought(alloc, asked))
             }
-            DimseOperation::FindEntries => Ok(query(tables, institution, message, syntax)?),
+            DimseOperation::FindEntries => {
+                let found = query(tables, institution, message, syntax)?;
+                Ok(all_found(alloc, found))
+            }
             DimseOperation::CreateStep => {
                 let status = create(tables, institution, message, syntax)?;
-                Ok(status_alone(tables.alloc(), status))
+                Ok(status_alone(alloc, status))
             }
             DimseOperation::SetStep => {
                 let status = set(tables, institution, message, syntax)?;
-                Ok(status_alone(tables.alloc(), status))
+                Ok(status_alone(alloc, status))
             }
         }
     }
@@ -118,11 +173,15 @@ impl Provider<'_> {
         context: AgreedContext,
         message: &Message,
         tables: &mut T,
-    ) -> Result<Found, Fault>
+        log: &mut Listed<Added>,
+    ) -> Result<Answers, Fault>
         ensures serves { (sent : Received) → StandsFor context.syntax message.now sent →
             Operates (T.state tables.old) (T.state tables.new) self.entry.institution.now.name
             (message_outcome self.entry.agreement.now context
             (limits_of self.entry.institution.now) sent) result }
+        ensures told { (T.state tables.new).honest → OnOk result
+            (IsTold self.entry.institution.now.name (T.state tables.old).rows
+            (T.state tables.new).rows log.old log.new) }
         ensures goes { Goes (T.state tables.old) (T.state tables.new) result }
         ensures fault { IfErr result (λ fault. fault ≢ Fault.Stopped) }
     {
@@ -133,40 +192,43 @@ impl Provider<'_> {
         if command.sop_class.as_slice() != context.class.uid() {
             return Ok(status_alone(tables.alloc(), status::SOP_CLASS_NOT_SUPPORTED));
         }
-        self.perform(operation, message, context.syntax, tables)
+        self.perform(operation, message, context.syntax, tables, log)
     }
 
-    /// Notes what a message was answered, where notes are kept.
-    fn note(self, context: AgreedContext, message: &Message, found: &Found, notes: &mut Notes) {
-        if notes.are_kept() {
-            let identifier = identifier(notes.alloc(), message, context.syntax).unwrap_or(None);
-            notes.serve(
-                context.class.service(),
-                found.status,
-                found.answers.len(),
-                identifier.as_ref(),
-            );
+    /// What is to be noted of a message, where notes are kept.
+    fn note(
+        self,
+        context: AgreedContext,
+        message: &Message,
+        notes: &mut Notes,
+    ) -> Option<ServedNote> {
+        if !notes.are_kept() {
+            return None;
         }
+        let identifier = identifier(notes.alloc(), message, context.syntax).unwrap_or(None);
+        notes.begin(context.class.service(), identifier.as_ref())
     }
 
     /// Serves a message while no C-FIND is open: makes its edits, and sends the first page of its
     /// responses. None comes on a context that was not accepted, and none to a C-CANCEL. Gives back
-    /// what is left of the responses.
+    /// the octets with those that are sent, and what is left of the responses.
     fn serve<T: Tables>(
         self,
+        octets: Vec<u8>,
         message: Message,
         tables: &mut T,
-        out: &mut Vec<u8>,
+        log: &mut Listed<Added>,
         notes: &mut Notes,
-    ) -> Result<Option<OpenQuery>, Fault>
+    ) -> Result<Answered, Fault>
         ensures goes { Goes (T.state tables.old) (T.state tables.new) result }
         ensures does { (T.state tables.new).honest → (sent : Received) →
-            StandsOn (accepted_by self.entry.agreement.now) message sent → IfOk result (λ query.
+            StandsOn (accepted_by self.entry.agreement.now) message sent → IfOk result (λ given.
             Did (Some self.entry.institution.now)
             (served_answer (limits_of self.entry.institution.now) self.entry.agreement.now
             (of self.entry.institution.now.name (T.state tables.old).rows) None sent)
-            (T.state tables.old).rows (T.state tables.new).rows out.old.items out.new.items
-            (open_query_in query)) }
+            (T.state tables.old).rows (T.state tables.new).rows octets.items given.octets.items
+            (query_then self.entry.institution.now.name (T.state tables.new).rows log.new
+            given.query)) }
         ensures stops { (T.state tables.new).honest → (sent : Received) →
             StandsOn (accepted_by self.entry.agreement.now) message sent → OnErr result (
             DidPart (Some self.entry.institution.now)
@@ -174,95 +236,135 @@ impl Provider<'_> {
             (of self.entry.institution.now.name (T.state tables.old).rows) None sent)
             (T.state tables.old).rows (T.state tables.new).rows
             (MayLeaveAfter (T.state tables.old) (T.state tables.new))) }
+        ensures told { (T.state tables.new).honest → OnOk result
+            (IsTold self.entry.institution.now.name (T.state tables.old).rows
+            (T.state tables.new).rows log.old log.new) }
+        ensures begun { IfOk result (λ given. IsBegun log.new given.query) }
         ensures fault { IfErr result (λ fault. fault ≢ Fault.Stopped) }
     {
         let Some(context) = self.agreement.context(message.context) else {
-            return Ok(None);
+            return Ok(Answered {
+                octets,
+                query: None,
+            });
         };
         if message.command.code == command_field::C_CANCEL {
-            return Ok(None);
+            return Ok(Answered {
+                octets,
+                query: None,
+            });
         }
-        let found = self.outcome(context, &message, tables)?;
-        self.note(context, &message, &found, notes);
-        let query = OpenQuery::new(
-            tables.alloc(),
-            self.agreement,
+        let answers = self.outcome(context, &message, tables, log)?;
+        let note = self.note(context, &message, notes);
+        let query = OpenQuery {
             context,
-            message.command,
-            found,
-        );
-        Ok(query.send_page(tables.alloc(), out)?)
+            command: message.command,
+            limit: self.agreement.limit,
+            answers,
+            since: log.len(),
+            note,
+        };
+        let home = self.home(log.as_slice());
+        let mut octets = octets;
+        let query = send_page(home, query, tables, &mut octets, notes)?;
+        Ok(Answered { octets, query })
     }
 
     /// Answers a message: a C-CANCEL ends the C-FIND that is open, where it is of that, and any
     /// other message is served after all that is left of it.
     fn respond<T: Tables>(
         self,
-        query: Option<OpenQuery>,
+        answered: Answered,
         message: Message,
         tables: &mut T,
-        out: &mut Vec<u8>,
+        log: &mut Listed<Added>,
         notes: &mut Notes,
-    ) -> Result<Option<OpenQuery>, Fault>
+    ) -> Result<Answered, Fault>
         ensures goes { Goes (T.state tables.old) (T.state tables.new) result }
         ensures does { (T.state tables.new).honest → (sent : Received) →
-            StandsOn (accepted_by self.entry.agreement.now) message sent → IfOk result (λ next.
+            StandsOn (accepted_by self.entry.agreement.now) message sent → IfOk result (λ given.
             Did (Some self.entry.institution.now)
             (served_answer (limits_of self.entry.institution.now) self.entry.agreement.now
-            (of self.entry.institution.now.name (T.state tables.old).rows) (open_query_in query) sent)
-            (T.state tables.old).rows (T.state tables.new).rows out.old.items out.new.items
-            (open_query_in next)) }
+            (of self.entry.institution.now.name (T.state tables.old).rows)
+            (query_then self.entry.institution.now.name (T.state tables.old).rows log.old
+            answered.query) sent)
+            (T.state tables.old).rows (T.state tables.new).rows
+            answered.octets.items given.octets.items
+            (query_then self.entry.institution.now.name (T.state tables.new).rows log.new
+            given.query)) }
         ensures stops { (T.state tables.new).honest → (sent : Received) →
             StandsOn (accepted_by self.entry.agreement.now) message sent → OnErr result (
             DidPart (Some self.entry.institution.now)
             (served_answer (limits_of self.entry.institution.now) self.entry.agreement.now
-            (of self.entry.institution.now.name (T.state tables.old).rows) (open_query_in query) sent)
+            (of self.entry.institution.now.name (T.state tables.old).rows)
+            (query_then self.entry.institution.now.name (T.state tables.old).rows log.old
+            answered.query) sent)
             (T.state tables.old).rows (T.state tables.new).rows
             (MayLeaveAfter (T.state tables.old) (T.state tables.new))) }
+        ensures told { (T.state tables.new).honest → OnOk result
+            (IsTold self.entry.institution.now.name (T.state tables.old).rows
+            (T.state tables.new).rows log.old log.new) }
+        ensures begun { IsBegun log.old answered.query →
+            IfOk result (λ given. IsBegun log.new given.query) }
         ensures fault { IfErr result (λ fault. fault ≢ Fault.Stopped) }
     {
+        let Answered { mut octets, query } = answered;
         let Some(open) = query else {
-            return self.serve(message, tables, out, notes);
+            return self.serve(octets, message, tables, log, notes);
         };
         if message.command.code == command_field::C_CANCEL {
-            return Ok(open.cancel(tables.alloc(), message.command.id, out)?);
+            let id = message.command.id;
+            let query = open.cancel(tables.alloc(), id, &mut octets, notes)?;
+            return Ok(Answered { octets, query });
         }
-        open.send_rest(tables.alloc(), out)?;
-        self.serve(message, tables, out, notes)
+        let home = self.home(log.as_slice());
+        send_rest(home, open, tables, &mut octets, notes)?;
+        self.serve(octets, message, tables, log, notes)
     }
 
     /// Answers messages, in order.
     fn respond_all<T: Tables>(
         self,
-        query: Option<OpenQuery>,
+        answered: Answered,
         messages: Vec<Message>,
         tables: &mut T,
-        out: &mut Vec<u8>,
+        log: &mut Listed<Added>,
         notes: &mut Notes,
-    ) -> Result<Option<OpenQuery>, Fault>
+    ) -> Result<Answered, Fault>
         ensures goes { Goes (T.state tables.old) (T.state tables.new) result }
         ensures does { (T.state tables.new).honest → (sent : List Received) →
             StandForAll (accepted_by self.entry.agreement.now) messages.items sent →
-            IfOk result (λ next. Did (Some self.entry.institution.now)
+            IfOk result (λ given. Did (Some self.entry.institution.now)
             (messages_answer (limits_of self.entry.institution.now) self.entry.agreement.now
-            (of self.entry.institution.now.name (T.state tables.old).rows) (open_query_in query) sent)
-            (T.state tables.old).rows (T.state tables.new).rows out.old.items out.new.items
-            (open_query_in next)) }
+            (of self.entry.institution.now.name (T.state tables.old).rows)
+            (query_then self.entry.institution.now.name (T.state tables.old).rows log.old
+            answered.query) sent)
+            (T.state tables.old).rows (T.state tables.new).rows
+            answered.octets.items given.octets.items
+            (query_then self.entry.institution.now.name (T.state tables.new).rows log.new
+            given.query)) }
         ensures stops { (T.state tables.new).honest → (sent : List Received) →
             StandForAll (accepted_by self.entry.agreement.now) messages.items sent → OnErr result (
             DidPart (Some self.entry.institution.now)
             (messages_answer (limits_of self.entry.institution.now) self.entry.agreement.now
-            (of self.entry.institution.now.name (T.state tables.old).rows) (open_query_in query) sent)
+            (of self.entry.institution.now.name (T.state tables.old).rows)
+            (query_then self.entry.institution.now.name (T.state tables.old).rows log.old
+            answered.query) sent)
             (T.state tables.old).rows (T.state tables.new).rows
             (MayLeaveAfter (T.state tables.old) (T.state tables.new))) }
+        ensures told { (T.state tables.new).honest → OnOk result
+            (IsTold self.entry.institution.now.name (T.state tables.old).rows
+            (T.state tables.new).rows log.old log.new) }
+        ensures begun { IsBegun log.old answered.query →
+            IfOk result (λ given. IsBegun log.new given.query) }
         ensures fault { IfErr result (λ fault. fault ≢ Fault.Stopped) }
     {
         own_records_are_edited();
-        let mut query = query;
+        let mut answered = answered;
         for message in messages {
-            query = self.respond(query, message, tables, out, notes)?;
+            answered = self.respond(answered, message, tables, log, notes)?;
         }
-        Ok(query)
+        Ok(answered)
     }
 
     /// Answers what was taken: the acceptance, then the responses of the services, and then the
@@ -272,6 +374,7 @@ impl Provider<'_> {
         query: Option<OpenQuery>,
         taken: Taken,
         tables: &mut T,
+        log: &mut Listed<Added>,
         notes: &mut Notes,
     ) -> Result<Answered, Fault>
         ensures goes { Goes (T.state tables.old) (T.state tables.new) result }
@@ -280,26 +383,86 @@ impl Provider<'_> {
             Did (Some self.entry.institution.now)
             (taken_answer (limits_of self.entry.institution.now)
             (of self.entry.institution.now.name (T.state tables.old).rows)
-            (Some self.entry.agreement.now) (open_query_in query) t)
+            (Some self.entry.agreement.now)
+            (query_then self.entry.institution.now.name (T.state tables.old).rows log.old query) t)
             (T.state tables.old).rows (T.state tables.new).rows [] given.octets.items
-            (open_query_in given.query)) }
+            (query_then self.entry.institution.now.name (T.state tables.new).rows log.new
+            given.query)) }
         ensures stops { (T.state tables.new).honest → (t : Pure) →
             IsTaken (Some self.entry.agreement.now) taken t → OnErr result (
             DidPart (Some self.entry.institution.now)
             (taken_answer (limits_of self.entry.institution.now)
             (of self.entry.institution.now.name (T.state tables.old).rows)
-            (Some self.entry.agreement.now) (open_query_in query) t)
+            (Some self.entry.agreement.now)
+            (query_then self.entry.institution.now.name (T.state tables.old).rows log.old query) t)
             (T.state tables.old).rows (T.state tables.new).rows
             (MayLeaveAfter (T.state tables.old) (T.state tables.new))) }
+        ensures told { (T.state tables.new).honest → OnOk result
+            (IsTold self.entry.institution.now.name (T.state tables.old).rows
+            (T.state tables.new).rows log.old log.new) }
+        ensures begun { IsBegun log.old query → IfOk result (λ given. IsBegun log.new given.query) }
         ensures fault { IfErr result (λ fault. fault ≢ Fault.Stopped) }
     {
         let Taken { opening, step } = taken;
-        let mut octets = opening.into_inner();
+        let answered = Answered {
+            octets: opening.into_inner(),
+            query,
+        };
         let messages = step.messages.into_inner();
-        let query = self.respond_all(query, messages, tables, &mut octets, notes)?;
-        octets.extend_from_slice(step.octets.as_slice())?;
-        Ok(Answered { octets, query })
+        let mut answered = self.respond_all(answered, messages, tables, log, notes)?;
+        answered.octets.extend_from_slice(step.octets.as_slice())?;
+        Ok(answered)
     }
+}
+
+/// Sends all that is left of a C-FIND of an institution, by what was logged since it began.
+fn send_rest<T: Tables>(
+    home: Home<'_>,
+    query: OpenQuery,
+    tables: &mut T,
+    out: &mut Vec<u8>,
+    notes: &mut Notes,
+) -> Result<(), TableFault>
+    ensures reads { Reads (T.state tables.old) (T.state tables.new) result }
+    ensures sent { (T.state tables.new).honest → OnOk result (out.new.items ≡ out.old.items
+        ++ rest (open_query_of (records_since home.entry.institution.now.name
+        (T.state tables.old).rows home.entry.log.now query.since) query)) }
+{
+    let later = since(home.log, query.since);
+    let mut archive = Past::new(tables, home.institution, later);
+    query.send_rest(&mut archive, out, notes)
+}
+
+/// Sends the next page of a C-FIND of an institution, by what was logged since it began.
+pub(crate) fn send_page<T: Tables>(
+    home: Home<'_>,
+    query: OpenQuery,
+    tables: &mut T,
+    out: &mut Vec<u8>,
+    notes: &mut Notes,
+) -> Result<Option<OpenQuery>, TableFault>
+    ensures reads { Reads (T.state tables.old) (T.state tables.new) result }
+    ensures sent { (T.state tables.new).honest → IfOk result (λ left.
+        let name = home.entry.institution.now.name in
+        let asked = open_query_of (records_since name (T.state tables.old).rows
+        home.entry.log.now query.since) query in
+        (out.new.items ≡ out.old.items ++ (page asked).octets)
+        × (query_then name (T.state tables.old).rows home.entry.log.now left
+        ≡ (page asked).query)) }
+    ensures since { IfOk result (λ left. (q : HeldQuery) → left ≡ Some q
+        → q.since ≡ query.since) }
+{
+    let later = since(home.log, query.since);
+    let mut archive = Past::new(tables, home.institution, later);
+    let left = query.send_page(&mut archive, out, notes)?;
+    Ok(left)
+}
+
+/// What was logged after so many.
+fn since(log: &[Added], count: usize) -> &[Added]
+    ensures { result.now ≡ drop count log.now }
+{
+    &log[count.min(log.len())..]
 }
 
 /// Answers what was taken on a connection that no institution has, or on which nothing is agreed:

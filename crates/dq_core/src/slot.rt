@@ -1,4 +1,4 @@
-ghost use Rattle.std.specs.Prelude.{◌≡◌, ◌≢◌, ◌⊎◌, List, [], ◌∷◌, ◌++◌, Option, None, false, IfOk, IfErr, OnOk, OnErr, IsOk};
+ghost use Rattle.std.specs.Prelude.{◌≡◌, ◌≢◌, ◌⊎◌, List, [], ◌∷◌, ◌++◌, Option, None, false, IfOk, IfErr, OnOk, OnErr, IsOk, true};
 ghost use Rattle.std.specs.Option.{option_copied};
 ghost use Rattle.dq_pdu.specs.declared.pdu.Pdu.{Pdu};
 ghost use Rattle.dq_pdu.specs.declared.pdu.Pdu.TheVariants as pdu;
@@ -12,17 +12,20 @@ ghost use Rattle.dq_assoc.specs.Holding.{Stands, held_agreement, held_state};
 ghost use Rattle.dq_config.specs.declared.config.Institution.{Institution};
 ghost use Rattle.dq_core.specs.Doing.{Did, DidPart, Taken as Pure, agreement_after, taken_inputs};
 ghost use Rattle.dq_core.specs.Pages.{next_page};
-ghost use Rattle.dq_core.specs.Queries.{open_query_in};
-ghost use Rattle.dq_core.specs.Slots.{IsTaken, StandsAt, connection_answer, home_of};
+ghost use Rattle.dq_tables.specs.declared.row.Row.{Row};
+ghost use Rattle.dq_core.specs.Queries.{IsBegun, IsToldBy, query_by};
+ghost use Rattle.dq_core.specs.Slots.{IsTaken, StandsAt, connection_answer, home_of, institution_at, is_searching, query_at, IsBegunAt};
 ghost use Rattle.dq_core.specs.Stepping.{Goes, MayLeaveAfter};
 
+use crate::additions::Additions;
 use crate::fault::Fault;
 use crate::notes::Notes;
 use crate::pages::OpenQuery;
-use crate::service::{Provider, answer_unserved};
+use crate::service::{Home, Provider, answer_unserved, send_page};
+use dq_archive::Added;
 use dq_assoc::laws::{an_association_after_pdus, pdus_in_parts};
 use dq_assoc::{Agreement, Association, State, Step, Verdict};
-use dq_config::Institution;
+use dq_config::{Config, Institution};
 use dq_list::Listed;
 use dq_pdu::{Fed, Inbox, Pdu, Request};
 use dq_tables::Tables;
@@ -87,19 +90,59 @@ impl Slot {
         self.query = None;
     }
 
+    /// Whether a C-FIND is open on a connection of the institution of a name.
+    pub(crate) fn is_searching(&self, name: &[u8]) -> bool
+        ensures { result ≡ is_searching name.now self.now }
+    {
+        match (&self.home, &self.query) {
+            (Some(home), Some(_)) => home.as_slice() == name,
+            _ => false,
+        }
+    }
+
     /// Sends the next page of the responses that are left. Where none are, it takes no memory.
-    pub(crate) fn send_page(&mut self, alloc: Global) -> Result<Vec<u8>, AllocError>
-        ensures page { IfOk result (λ octets.
-            octets.items ≡ (next_page (open_query_in self.old.query)).octets) }
-        ensures left { OnOk result
-            (open_query_in self.new.query ≡ (next_page (open_query_in self.old.query)).query) }
+    pub(crate) fn send_page<T: Tables>(
+        &mut self,
+        config: &Config,
+        additions: &Additions,
+        tables: &mut T,
+        notes: &mut Notes,
+    ) -> Result<Vec<u8>, Fault>
+        ensures goes { Goes (T.state tables.old) (T.state tables.new) result }
+        ensures same { (T.state tables.new).honest →
+            (T.state tables.new).rows ≡ (T.state tables.old).rows }
+        ensures crash { (T.state tables.new).honest → (r : List Row) →
+            (T.state tables.new).may_leave r → (T.state tables.old).may_leave r }
+        ensures page { (T.state tables.new).honest →
+            IsBegunAt config.now additions.now.logs.items self.old.home self.old.query →
+            IfOk result (λ octets. octets.items ≡ (next_page
+            (query_at config.now (T.state tables.old).rows additions.now.logs.items
+            self.old.home self.old.query)).octets) }
+        ensures left { (T.state tables.new).honest →
+            IsBegunAt config.now additions.now.logs.items self.old.home self.old.query →
+            OnOk result (query_at config.now (T.state tables.old).rows additions.now.logs.items
+            self.old.home self.new.query ≡ (next_page
+            (query_at config.now (T.state tables.old).rows additions.now.logs.items
+            self.old.home self.old.query)).query) }
+        ensures begun { IsBegunAt config.now additions.now.logs.items self.old.home
+            self.old.query → OnOk result
+            (IsBegunAt config.now additions.now.logs.items self.old.home self.new.query) }
         ensures keeps { self.new ≡ record self.old { query = self.new.query } }
+        ensures fault { IfErr result (λ fault. fault ≢ Fault.Stopped) }
         ensures quiet { self.old.query ≡ None → IsOk result }
     {
-        let mut octets = Vec::new(alloc);
-        if let Some(query) = self.query.take() {
-            self.query = query.send_page(alloc, &mut octets)?;
-        }
+        let mut octets = Vec::new(tables.alloc());
+        let Some(query) = self.query.take() else {
+            return Ok(octets);
+        };
+        let Some(institution) = institution_of(config, &self.home) else {
+            return Ok(octets);
+        };
+        let home = Home {
+            institution,
+            log: additions.of(config, institution.name.as_slice()),
+        };
+        self.query = send_page(home, query, tables, &mut octets, notes)?;
         Ok(octets)
     }
 
@@ -110,6 +153,7 @@ impl Slot {
         institution: Option<&Institution>,
         taken: Taken,
         tables: &mut T,
+        log: &mut Listed<Added>,
         notes: &mut Notes,
     ) -> Result<Vec<u8>, Fault>
         ensures goes { Goes (T.state tables.old) (T.state tables.new) result }
@@ -117,16 +161,29 @@ impl Slot {
             IsTaken (held_agreement self.old.association) taken t → IfOk result (λ octets.
             Did (option_copied institution.entry)
             (connection_answer (option_copied institution.entry) (T.state tables.old).rows
-            (held_agreement self.old.association) (open_query_in self.old.query) t)
+            (held_agreement self.old.association)
+            (query_by (option_copied institution.entry) (T.state tables.old).rows log.old
+            self.old.query) t)
             (T.state tables.old).rows (T.state tables.new).rows [] octets.items
-            (open_query_in self.new.query)) }
+            (query_by (option_copied institution.entry) (T.state tables.new).rows log.new
+            self.new.query)) }
         ensures stops { (T.state tables.new).honest → (t : Pure) →
             IsTaken (held_agreement self.old.association) taken t → OnErr result (
             DidPart (option_copied institution.entry)
             (connection_answer (option_copied institution.entry) (T.state tables.old).rows
-            (held_agreement self.old.association) (open_query_in self.old.query) t)
+            (held_agreement self.old.association)
+            (query_by (option_copied institution.entry) (T.state tables.old).rows log.old
+            self.old.query) t)
             (T.state tables.old).rows (T.state tables.new).rows
             (MayLeaveAfter (T.state tables.old) (T.state tables.new))) }
+        ensures told { (T.state tables.new).honest → OnOk result
+            (IsToldBy (option_copied institution.entry) (T.state tables.old).rows
+            (T.state tables.new).rows log.old log.new) }
+        ensures begun { IsBegun log.old self.old.query →
+            OnOk result (IsBegun log.new self.new.query) }
+        ensures unserved { home_of (option_copied institution.entry)
+            (held_agreement self.old.association) ≡ None →
+            OnOk result (self.new.query ≡ self.old.query) }
         ensures fault { IfErr result (λ fault. fault ≢ Fault.Stopped) }
         ensures keeps { self.new ≡ record self.old { query = self.new.query } }
     {
@@ -141,7 +198,7 @@ impl Slot {
             institution,
             agreement,
         };
-        let answered = provider.answer(query, taken, tables, notes)?;
+        let answered = provider.answer(query, taken, tables, log, notes)?;
         self.query = answered.query;
         Ok(answered.octets)
     }
@@ -172,6 +229,8 @@ impl Slot {
             × StandsAt (option_copied called.entry.institution) self.new (before ++ fed.pdus)) }
         ensures keeps { (self.new.number ≡ self.old.number) × (self.new.inbox ≡ self.old.inbox)
             × (self.new.query ≡ self.old.query) }
+        ensures home { held_state self.old.association ≡ Waiting
+            ⊎ (self.new.home ≡ self.old.home) }
     {
         an_association_after_pdus();
         pdus_in_parts();
@@ -269,6 +328,16 @@ impl Slot {
             opening: answer.octets,
             step,
         })
+    }
+}
+
+/// The institution that has its home in a slot.
+fn institution_of<'a>(config: &'a Config, home: &Option<Listed<u8>>) -> Option<&'a Institution>
+    ensures { option_copied result ≡ institution_at config.now home.now }
+{
+    match home {
+        Some(home) => config.institution(home.as_slice()),
+        None => None,
     }
 }
 

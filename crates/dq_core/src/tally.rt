@@ -81,7 +81,7 @@ impl Tally {
 }
 
 /// Where the institution of a name stands.
-fn place_of(config: &Config, name: &[u8]) -> Option<usize>
+pub(crate) fn place_of(config: &Config, name: &[u8]) -> Option<usize>
     ensures { result ≡ institution_index config.now name.now }
 {
     config

@@ -26,7 +26,7 @@ use Rattle.dq_tables.specs.declared.row.Kind.{Kind}
 use Rattle.dq_tables.specs.Rows.{Record, record_of, of}
 use Rattle.dq_tables.specs.Records.{data_set_of}
 use Rattle.dq_tables.specs.Keys.{uid_at}
-use Rattle.dq_tables.specs.Sound.{IsSound, is_own_row, is_record_of, may_be_started, is_value, has_key, has_above}
+use Rattle.dq_tables.specs.Sound.{OwnEach, is_own_row, is_record_of, may_be_started, is_value, has_key, has_above}
 use Rattle.dq_archive.proofs.OwnRecords.{of_each, passed, value_from}
 use Rattle.dq_find.specs.declared.level.Level.{Level}
 use Rattle.dq_find.specs.declared.level.Level.TheVariants.{Study, Series, Image}
@@ -57,7 +57,7 @@ unfolding is_own_row
 row_own row own =
     own_by (reading Explicit row.octets) row refl (and_parts (may_be_started row.kind row.started) (is_record_of (reading Explicit row.octets) row) own).1
 
-pub has_own : (institution : List ℕ) (rows : List Row) (r : Record) → IsSound rows → IsAmong r (of institution rows) → HasOwn r
+pub has_own : (institution : List ℕ) (rows : List Row) (r : Record) → OwnEach rows → IsAmong r (of institution rows) → HasOwn r
 has_own institution rows r = of_each HasOwn row_own r institution rows
 
 -- ---- a UID that is asked for is met by itself alone

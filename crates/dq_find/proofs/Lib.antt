@@ -16,3 +16,7 @@ mod TextFacts
 mod Asked
 mod Modalities
 mod WorkedExamples
+mod Then
+mod InPages
+pub mod Lasting
+mod Lazier

@@ -30,7 +30,7 @@ use Rattle.dq_tables.specs.Rows.{Record, IsRising, octet_order, record_of, row_o
 use Rattle.dq_tables.specs.Finding.{record_at, records_of, records_above}
 use Rattle.dq_tables.specs.Records.{AreInOrder, data_set_of}
 use Rattle.dq_tables.specs.Keys.{uid_at}
-use Rattle.dq_tables.specs.Sound.{IsSound, has_key}
+use Rattle.dq_tables.specs.Sound.{OwnEach, has_key}
 use Rattle.dq_tables.proofs.Listing.{listed_in_order, in_order_filter}
 use Rattle.dq_tables.proofs.Rising.{one_list}
 use Rattle.dq_archive.proofs.Named.{only_named}
@@ -42,7 +42,7 @@ use Rattle.dq_find.specs.Levels.{kind_of, unique_key}
 use Rattle.dq_find.specs.Choosing.{is_asked}
 use Rattle.dq_find.specs.Computed.{with_computed, computed_keys}
 use Rattle.dq_find.specs.Queries.{answer_elements, record_answer, answers_of_records, records_asked, asked_records}
-use Rattle.dq_find.specs.Candidates.{own_values, names_records, looks_up, has_one_of, query_candidates, is_under, under, looked_up, named_record, named_rows}
+use Rattle.dq_find.specs.Candidates.{own_values, names_records, looks_up, has_one_of, query_candidates, is_looked_at, is_under, under, looked_up, named_record, named_rows}
 use Rattle.dq_find.proofs.Answered.{asked_from, asked_in_order}
 use Rattle.dq_find.proofs.Answering.{row_answers, stays}
 use Rattle.dq_find.proofs.Asked.{has_own, EachAlone}
@@ -103,6 +103,15 @@ module _ (institution : List ℕ) (rows : List Row) (query : Query) (rising : Is
     gives_named r h key =
         only_of r (named_record own query uid)
         (subst (λ (rs : List Record). IsAmong r rs) named_alone (among_filter (keyed uid) r asked h ((bytes_eq-Decides r.key uid).1 key)))
+
+  -- each of the records that are looked at is named by its key
+  named_each : (rs : List Record) → ((r : Record) → IsAmong r rs → IsAmong r asked) → filter_map (named_record own query) (map (λ (r : Record). r.key) rs) ≡ rs
+  named_each [] within = refl
+  named_each (r ∷ rs) within =
+      rw (gives_named r.key r (within r (inl refl)) refl) (ap (λ l. r ∷ l) (named_each rs (λ s h. within s (inr h))))
+
+  pub named_again : filter_map (named_record own query) (map (λ (r : Record). r.key) (query_candidates own query)) ≡ query_candidates own query
+  named_again = named_each (query_candidates own query) (λ r h. (filtered_from (is_looked_at query) r asked h).0)
 
   -- ---- what some keys name
 
@@ -193,7 +202,7 @@ rows_step : (institution : List ℕ) (o : Option Record) (later : List Record)
 rows_step institution None later = refl
 rows_step institution (Some r) later = refl
 
-rows_are : (institution : List ℕ) (records : List Record) (query : Query) (uids : List (List ℕ))
+pub rows_are : (institution : List ℕ) (records : List Record) (query : Query) (uids : List (List ℕ))
     → named_rows institution records query uids ≡ map (row_of institution) (filter_map (named_record records query) uids)
 rows_are institution records query [] = refl
 rows_are institution records query (uid ∷ uids) = grind (arith, rows_step, rows_are institution records query uids)
@@ -255,19 +264,19 @@ unique_key_stays records Study key held = stays records Study key held tags.stud
 unique_key_stays records Series key held = stays records Series key held tags.series_instance_uid refl
 unique_key_stays records Image key held = stays records Image key held tags.sop_instance_uid refl
 
-module _ (institution : List ℕ) (rows : List Row) (called : List ℕ) (query : Query) (sound : IsSound rows)
+module _ (institution : List ℕ) (rows : List Row) (called : List ℕ) (query : Query) (rising : IsRising rows) (each_own : OwnEach rows)
     (known : AllByRecursion HasKnownVr (elements_of query.keys)) (alone : EachAlone query.keys) (days : DaysAreInOrder) where
   not_named_by : (r : Record) (b : Bool) → IsAmong r (asked_records (of institution rows) query) → names_records (own_values query) ≡ true
       → has_one_of (own_values query) r ≡ false → fits query.keys (with_computed (of institution rows) query.level r) ≡ b
       → option_map (answer_elements called query) (if b then Some (shown_data_set query.keys (with_computed (of institution rows) query.level r)) else None) ≡ None
   not_named_by r true h named other is =
       let from = asked_from query.level query.keys r (of institution rows) h in
-      let own = has_own institution rows r sound from.0 in
+      let own = has_own institution rows r each_own from.0 in
       let held = data_set_of r.octets in
       let among = named_among (unique_key query.level) query.keys held (with_computed (of institution rows) query.level r) (own_values query) r.key
       (unique_keys_are_uids query.level) known own.known (unique_key_stays (of institution rows) query.level r.key held) refl named
       (key_is query.level r from.1 own.key) (alone (with_computed (of institution rows) query.level r) is) in
-      absurd (cc (sym other ∙ one_of_to institution rows query sound.rising r.key (own_values query) among))
+      absurd (cc (sym other ∙ one_of_to institution rows query rising r.key (own_values query) among))
   not_named_by r false h named other is = refl
 
   not_chosen_by : (r : Record) (level : Level) (b : Bool) → query.level ≡ level → IsAmong r (asked_records (of institution rows) query)
@@ -275,7 +284,7 @@ module _ (institution : List ℕ) (rows : List Row) (called : List ℕ) (query :
       → option_map (answer_elements called query) (if b then Some (shown_data_set query.keys (with_computed (of institution rows) query.level r)) else None) ≡ None
   not_chosen_by r Study true level h other is =
       let from = asked_from query.level query.keys r (of institution rows) h in
-      let own = has_own institution rows r sound from.0 in
+      let own = has_own institution rows r each_own from.0 in
       let held = data_set_of r.octets in
       let whole = with_computed (of institution rows) query.level r in
       let kind : r.kind ≡ kind.Study = from.1 ∙ ap kind_of level in
@@ -303,12 +312,12 @@ module _ (institution : List ℕ) (rows : List Row) (called : List ℕ) (query :
   skipped = grind (arith, given_skipped, not_looked_at)
 
 -- what is answered of the rows that are looked at
-pub answered_of_candidates : (institution : List ℕ) (rows : List Row) (called : List ℕ) (query : Query) → IsSound rows → IsDataSet query.keys → EachAlone query.keys
+pub answered_of_candidates : (institution : List ℕ) (rows : List Row) (called : List ℕ) (query : Query) → IsRising rows → OwnEach rows → IsDataSet query.keys → EachAlone query.keys
     → DaysAreInOrder → row_answers (of institution rows) called query (map (row_of institution) (query_candidates (of institution rows) query))
     ≡ answers_of_records (of institution rows) called query
-answered_of_candidates institution rows called query sound facts alone days =
+answered_of_candidates institution rows called query rising each_own facts alone days =
     given_of_each (λ (row : Row). record_answer (of institution rows) called query (record_of row)) (row_of institution) (query_candidates (of institution rows) query)
-    ∙ sym (skipped institution rows called query sound (facts_give_known_vrs 16 None query.keys facts) alone days)
+    ∙ sym (skipped institution rows called query rising each_own (facts_give_known_vrs 16 None query.keys facts) alone days)
 
 -- where none are looked up, all that are asked for are looked at
 pub all_candidates : (institution : List ℕ) (records : List Record) (query : Query) → looks_up query.level (own_values query) ≡ false

@@ -125,12 +125,12 @@ module _ (institution : List ℕ) (rows : List Row) (called : List ℕ) (query :
 
   above_of_match : (r : Record) → MatchesQuery own query r → HasKeyAbove query.level query.keys (data_set_of r.octets)
   above_of_match r matches =
-      key_above_met own query.keys given.known (alone query.keys) r (has_own institution rows r sound matches.kept) query.level matches.level given.there
+      key_above_met own query.keys given.known (alone query.keys) r (has_own institution rows r sound.own matches.kept) query.level matches.level given.there
       matches.fit
 
   match_to : (r : Record) → MatchesQuery own query r → IsAmong r (filter (is_fit own called query) (asked_records own query))
   match_to r matches =
-      let under = under_met own query.keys given.known (alone query.keys) r (has_own institution rows r sound matches.kept) query.level matches.level
+      let under = under_met own query.keys given.known (alone query.keys) r (has_own institution rows r sound.own matches.kept) query.level matches.level
       (above_of_match r matches) in
       among_filter (is_fit own called query) r (asked_records own query) (asked_to query.level query.keys r own matches.kept matches.level under) matches.fit
 

@@ -7,4 +7,7 @@ pub mod Choosing
 pub mod Candidates
 pub mod Answers
 pub mod Pages
+pub mod OpenSearches
+pub mod Lazy
+pub mod Lazily
 pub mod Examples

@@ -4,12 +4,12 @@ ghost use Rattle.std.specs.Prelude.{◌≡◌, ◌≤◌, ◌∷◌, ◌++◌, l
 ghost use Rattle.dq_tables.specs.Rows.{record_of};
 ghost use Rattle.dq_find.specs.Computed.{put_in_order, all_in_order, modalities_in, backslash_joined, images_below, study_values, series_values, computed_keys};
 ghost use Rattle.dq_find.specs.Modalities.{is_modality, modality_limit, modalities_of};
-ghost use Rattle.dq_archive.specs.Archives.{Looks};
+ghost use Rattle.dq_archive.specs.Pasts.{Looks};
 ghost use Rattle.dq_find.specs.declared.level.Level.TheVariants.{Study, Series};
 ghost use Rattle.dq_dataset.specs.Values.{element_at, element_octets};
 
 use crate::texts::{Text, elements};
-use dq_archive::Archive;
+use dq_archive::Past;
 use dq_dataset::DataSet;
 use dq_list::Listed;
 use dq_match::octets_in;
@@ -158,7 +158,7 @@ fn series_values(alloc: Global, images: u64) -> Result<DataSet, AllocError>
 }
 
 /// How many images some series have.
-fn images_below<T: Tables>(archive: &mut Archive<'_, T>, series: &[Row]) -> Result<u128, TableFault>
+fn images_below<T: Tables>(archive: &mut Past<'_, T>, series: &[Row]) -> Result<u128, TableFault>
     ensures { Looks T.state archive.old archive.new
         (λ records. images_below records (map record_of series.now)) result }
 {
@@ -172,7 +172,7 @@ fn images_below<T: Tables>(archive: &mut Archive<'_, T>, series: &[Row]) -> Resu
 
 /// What is computed of the study with the key.
 pub(crate) fn study_computed<T: Tables>(
-    archive: &mut Archive<'_, T>,
+    archive: &mut Past<'_, T>,
     key: &[u8],
 ) -> Result<DataSet, TableFault>
     ensures { Looks T.state archive.old archive.new
@@ -187,7 +187,7 @@ pub(crate) fn study_computed<T: Tables>(
 
 /// What is computed of the series with the key.
 pub(crate) fn series_computed<T: Tables>(
-    archive: &mut Archive<'_, T>,
+    archive: &mut Past<'_, T>,
     key: &[u8],
 ) -> Result<DataSet, TableFault>
     ensures { Looks T.state archive.old archive.new

@@ -10,7 +10,7 @@ ghost use Rattle.dq_match.specs.Identifiers.{HasKnownTags};
 ghost use Rattle.dq_tables.specs.Keeping.{Reads};
 ghost use Rattle.dq_tables.specs.Rows.{Record, of, record_of, row_of};
 ghost use Rattle.dq_tables.specs.Serving.{Serves};
-ghost use Rattle.dq_archive.specs.Archives.{Looks};
+ghost use Rattle.dq_archive.specs.Pasts.{Looks};
 ghost use Rattle.dq_find.specs.declared.level.Level.TheVariants.{Study};
 ghost use Rattle.dq_find.specs.Choosing.{is_asked};
 ghost use Rattle.dq_find.specs.Candidates.{looks_up, query_candidates, is_under, named_record, named_rows, looked_up};
@@ -25,7 +25,7 @@ use crate::computed::{octets_at, series_computed, study_computed};
 use crate::level::Level;
 use crate::query::{Query, query_at, query_of};
 use crate::texts::{Text, elements};
-use dq_archive::Archive;
+use dq_archive::Past;
 use dq_config::Institution;
 use dq_dataset::{DataSet, Syntax};
 use dq_dimse::Message;
@@ -99,16 +99,16 @@ fn key_above(keys: &DataSet, tag: Tag) -> &[u8]
 
 /// A query with its keys, read once for all records, and the title that was called.
 #[derive(Clone, Copy)]
-struct Search<'a> {
-    called: &'a [u8],
-    query: &'a Query,
-    prepared: &'a PreparedKeys,
+pub(crate) struct Search<'a> {
+    pub called: &'a [u8],
+    pub query: &'a Query,
+    pub prepared: &'a PreparedKeys,
 }
 
 impl Search<'_> {
     /// The records of the level under the unique keys above it. Of studies, only those that can fit
     /// what is asked of their key, their patient and their day.
-    fn asked_rows<T: Tables>(&self, archive: &mut Archive<'_, T>) -> Result<Listed<Row>, TableFault>
+    fn asked_rows<T: Tables>(&self, archive: &mut Past<'_, T>) -> Result<Listed<Row>, TableFault>
         ensures { Looks T.state archive.old archive.new (λ records.
             map (row_of archive.old.institution.now.name)
             (filter (is_asked self.now.query.now.level self.now.query.now.keys)
@@ -155,7 +155,7 @@ impl Search<'_> {
     /// The record of the level with a unique key, where it is under the unique keys above it.
     fn row_named<T: Tables>(
         &self,
-        archive: &mut Archive<'_, T>,
+        archive: &mut Past<'_, T>,
         uid: &[u8],
     ) -> Result<Option<Row>, TableFault>
         ensures { Looks T.state archive.old archive.new (λ records.
@@ -169,7 +169,7 @@ impl Search<'_> {
     /// The records of the level with some unique keys, in the order of these.
     fn rows_named<T: Tables>(
         &self,
-        archive: &mut Archive<'_, T>,
+        archive: &mut Past<'_, T>,
         mut uids: BTreeSet<Vec<u8>>,
     ) -> Result<Listed<Row>, TableFault>
         ensures { Looks T.state archive.old archive.new (λ records.
@@ -186,9 +186,32 @@ impl Search<'_> {
         Ok(rows)
     }
 
+    /// The records of the level with some keys, in the order of these, as they stand in a list.
+    pub(crate) fn rows_with<T: Tables>(
+        &self,
+        archive: &mut Past<'_, T>,
+        keys: &[Listed<u8>],
+    ) -> Result<Listed<Row>, TableFault>
+        ensures { Looks T.state archive.old archive.new (λ records.
+            named_rows archive.old.institution.now.name records
+            self.now.query.now keys.now) result }
+    {
+        let mut rows = Listed::empty(archive.alloc);
+        for key in keys {
+            let row = self.row_named(archive, key.as_slice())?;
+            if let Some(row) = row {
+                rows.push(row)?;
+            }
+        }
+        Ok(rows)
+    }
+
     /// The records that are looked at: where the query gives its level's own unique key values, no
     /// record without one of them can match, and no study that the choice does not take.
-    fn rows<T: Tables>(&self, archive: &mut Archive<'_, T>) -> Result<Listed<Row>, TableFault>
+    pub(crate) fn rows<T: Tables>(
+        &self,
+        archive: &mut Past<'_, T>,
+    ) -> Result<Listed<Row>, TableFault>
         ensures { Looks T.state archive.old archive.new (λ records.
             map (row_of archive.old.institution.now.name)
             (query_candidates records self.now.query.now)) result }
@@ -205,7 +228,7 @@ impl Search<'_> {
     /// What is computed of the record of the level with the key.
     fn computed<T: Tables>(
         &self,
-        archive: &mut Archive<'_, T>,
+        archive: &mut Past<'_, T>,
         key: &[u8],
     ) -> Result<DataSet, TableFault>
         ensures { Looks T.state archive.old archive.new
@@ -253,7 +276,7 @@ impl Search<'_> {
     /// record that does not meet the keys that are kept.
     fn answer_of<T: Tables>(
         &self,
-        archive: &mut Archive<'_, T>,
+        archive: &mut Past<'_, T>,
         about: &DataSet,
         row: &Row,
     ) -> Result<Option<DataSet>, TableFault>
@@ -281,9 +304,9 @@ impl Search<'_> {
 
     /// The answers that some rows give, in their order, from a place on, at most so many where there
     /// is a most. No row is looked at behind the last of them.
-    fn answers_of<T: Tables>(
+    pub(crate) fn answers_of<T: Tables>(
         &self,
-        archive: &mut Archive<'_, T>,
+        archive: &mut Past<'_, T>,
         rows: &[Row],
         from: usize,
         most: Option<usize>,
@@ -310,7 +333,7 @@ impl Search<'_> {
     /// nothing each of them answers, so no other is read.
     fn part<T: Tables>(
         &self,
-        archive: &mut Archive<'_, T>,
+        archive: &mut Past<'_, T>,
         from: usize,
         most: Option<usize>,
     ) -> Result<Listed<DataSet>, TableFault>
@@ -339,7 +362,7 @@ impl Search<'_> {
 
 /// Whether values of a level's own unique key are looked up: there are some, and the first is no
 /// asterisk, which every record meets where it stands alone. One study is chosen instead.
-fn looks_up(level: Level, octets: &[u8]) -> bool
+pub(crate) fn looks_up(level: Level, octets: &[u8]) -> bool
     ensures { result ≡ looks_up level (element_values UI octets.now) }
 {
     let mut uids = values(Vr::UI, octets);
@@ -384,7 +407,7 @@ pub fn find<T: Tables>(
     ensures { Serves (T.state tables.old) (T.state tables.new) institution.now.name
         (λ records. (query_outcome records called.now (plain_message message.now) syntax, [])) result }
 {
-    let mut archive = Archive::new(tables, institution);
+    let mut archive = Past::new(tables, institution, &[]);
     let asked = query_of(archive.alloc, message, syntax)?;
     let found = answers_to(&mut archive, called, asked, 0, None)?;
     Ok(found)
@@ -405,7 +428,7 @@ pub fn find_by_keys<T: Tables>(
         (keys_outcome (of institution.now.name (T.state tables.old).rows) [] identifier.now)) }
     ensures reads { Reads (T.state tables.old) (T.state tables.new) result }
 {
-    let mut kept = Archive::new(tables, institution);
+    let mut kept = Past::new(tables, institution, &[]);
     let asked = query_at(kept.alloc, identifier)?;
     answers_to(&mut kept, &[], asked, from, Some(most))
 }
@@ -413,7 +436,7 @@ pub fn find_by_keys<T: Tables>(
 /// The answers to a query from a place on, at most so many where there is a most, or the status that
 /// refuses it.
 fn answers_to<T: Tables>(
-    archive: &mut Archive<'_, T>,
+    archive: &mut Past<'_, T>,
     called: &[u8],
     asked: Result<Query, u16>,
     from: usize,

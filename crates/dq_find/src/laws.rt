@@ -1,5 +1,5 @@
 //! Laws of queries. Each function's contract is a law; its body changes nothing.
-ghost use Rattle.std.specs.Prelude.{◌≡◌, ◌≢◌, ◌≤◌, ◌*◌, ℕ, List, [], ◌∷◌, length, take, drop, Ok, codes};
+ghost use Rattle.std.specs.Prelude.{◌≡◌, ◌≢◌, ◌≤◌, ◌*◌, ◌++◌, ℕ, List, [], ◌∷◌, length, take, drop, Ok, codes};
 ghost use Rattle.std.specs.List.{AllByRecursion, flat_map};
 ghost use Rattle.dq_dataset.specs.declared.header.Syntax.{Syntax};
 ghost use Rattle.dq_dataset.specs.declared.header.Syntax.TheVariants.{Explicit};
@@ -17,6 +17,9 @@ ghost use Rattle.dq_find.specs.Queries.{message_query, answers_of_records, query
 ghost use Rattle.dq_find.specs.Computed.{modalities_in};
 ghost use Rattle.dq_find.specs.Answers.{MatchesQuery, HasKeyAbove, AreQueryAnswers, TellsLevel};
 ghost use Rattle.dq_find.specs.Modalities.{AreModalities};
+ghost use Rattle.dq_archive.specs.Later.{lasting};
+ghost use Rattle.dq_find.specs.declared.open_search.OpenSearch.{OpenSearch};
+ghost use Rattle.dq_find.specs.OpenSearches.{left_of};
 ghost use Rattle.dq_find.specs.Pages.{HasGiven, GivesInTurn, IsPage, ArePages};
 ghost use Rattle.dq_find.specs.Examples.{query_request, identifier, kept_studies, jane_doe_answer, found_studies};
 
@@ -110,6 +113,13 @@ pub fn answers_are_given_once_in_order()
     ensures ended { (most : ℕ) (before left : Found) (pages : List (List ElementList))
         → ArePages most before pages left → length before.answers ≤ most * length pages
         → left.answers ≡ [] }
+{}
+
+/// What is left of an open search follows from the studies, the series and the images alone.
+#[tactic(auto, using(crate::proofs::Lasting::left_by))]
+pub fn open_searches_follow_what_lasts()
+    ensures { (search : OpenSearch) (one other : List Record) → lasting one ≡ lasting other
+        → left_of search one ≡ left_of search other }
 {}
 
 /// On a worked example: of no records nothing is found, with status 0000, and of the studies of two

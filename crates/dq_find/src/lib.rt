@@ -6,12 +6,16 @@ mod choosing;
 mod computed;
 mod finding;
 pub mod laws;
+mod lazy_answers;
 mod level;
+mod open_search;
 mod pages;
 mod query;
 mod texts;
 
 pub use finding::{find, find_by_keys};
+pub use lazy_answers::{LazyAnswers, begin_find};
 pub use level::Level;
+pub use open_search::OpenSearch;
 pub use pages::Pages;
 pub use query::Query;

@@ -49,6 +49,16 @@ impl Tables for RowsInFile {
         self.tables.rows_from(kind, institution, from, most)
     }
 
+    fn rows_after(
+        &mut self,
+        kind: Kind,
+        institution: &[u8],
+        key: &[u8],
+        most: usize,
+    ) -> Result<Listed<Row>, TableFault> {
+        self.tables.rows_after(kind, institution, key, most)
+    }
+
     fn rows_above(
         &mut self,
         kind: Kind,

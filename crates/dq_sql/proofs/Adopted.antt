@@ -50,17 +50,6 @@ pub found_settled : (a b : State) (rows : List Row) → LeavesCommit a → IsFou
 found_settled a b rows law found stays clean r left =
     one_list (under_schema left.trees) r rows left.has (found_left a b rows law found stays clean left.trees left.left)
 
-pub found_crash : (a b : State) → Stays a b → HasCleanDisk b → (r : List Row) → MayLeave b r → MayLeave a r
-found_crash a b stays clean r left = record {
-  trees = left.trees;
-  left = elim (stays.survives.crash clean left.trees left.left) [ inl before ↦ before | inr none ↦ absurd none ];
-  has = left.has;
-}
-
-pub refused_by : {A : Type 0} (r : Result A StoreFault) (P : StoreFault → Type 0) {fault : StoreFault} → IsErrAnd r (λ e. e ≡ fault) → P fault → IfErr r P
-refused_by (Ok x) P is p = tt
-refused_by (Err e) P is p = rw is p
-
 -- A store that shows another number is not of the version.
 pub another_is_not : (version : Version) (found left : State) → ShowsAnother version found left → ¬ IsOfVersion version found.now
 another_is_not version found left it is =

@@ -149,14 +149,6 @@ copied_of_others (first ∷ names) name rows some absent =
 
 -- ---- refusals
 
--- a refusal before the new store is touched
-pub untouched : (names : List (List ℕ)) (old left new : State) → IsNotCopied names old left new new
-untouched names old left new = record {
-  survives = survives_itself new _;
-  mode = λ out. out;
-  same = λ clean opened rest. record { was_open = opened; now = refl; committed = refl };
-}
-
 -- the new store is not made
 pub not_filled : (names : List (List ℕ)) (old left new after : State) (rows : List Row) → (HasCleanDisk left → IsCopyOf names old rows)
     → Survives new after (HasThese rows) → after.in_transaction ≡ false
@@ -165,19 +157,4 @@ not_filled names old left new after rows are survives mode same = record {
   survives = survives_weaker new after _ _ (λ _ trees has clean. record { rows = rows; are = are clean; has = has }) survives;
   mode = λ _. mode;
   same = same;
-}
-
--- a fault that says nothing of the old store
-pub plainly_refused : (old left : State) (cause : StoreFault) → Stays old left → (cause ≡ fault.NoMemory) ⊎ (cause ≡ fault.Store) → IsRefused old left Two cause
-plainly_refused old left cause stays (inl is) = record {
-  stays = stays;
-  wrong = λ clean wrong. let no = sym is ∙ wrong in cc;
-  said = λ clean bad. let no = sym is ∙ bad in cc;
-  bad = λ clean bad. let no = sym is ∙ bad in cc;
-}
-plainly_refused old left cause stays (inr is) = record {
-  stays = stays;
-  wrong = λ clean wrong. let no = sym is ∙ wrong in cc;
-  said = λ clean bad. let no = sym is ∙ bad in cc;
-  bad = λ clean bad. let no = sym is ∙ bad in cc;
 }

@@ -57,19 +57,3 @@ pub refused_stays : {S X : Type 0} (g : Ghosts S) (sql : List ℕ) (params : Val
     → result ≡ Err e → OnErr result (IsRefused g sql params old result new) → Stays (state g old) (state g new)
 refused_stays g sql params old (Ok x) e new silent same h = absurd (cc)
 refused_stays g sql params old (Err f) e new silent same h = failed_stays sql params (state g old) (state g new) silent f h.survives h.mode h.err
-
--- a step to the next row
-module _ {S : Type 0} (g : Ghosts S) (old : Rows S g) (result : Result (Option (Bor Values)) Error) (new : Rows S g) (moved : HasMoved g old result new) where
-  pub moved_stays : Stays (state g old.conn.now) (state g new.conn.now)
-  moved_stays = record {
-    survives = moved.survives;
-    mode = moved.mode;
-    same = λ clean live rest. either result (moved.same clean) (moved.kept clean) live rest;
-  }
-    where
-      either : (r : Result (Option (Bor Values)) Error) → OnOk r (IsUnchanged (state g old.conn.now) (state g new.conn.now))
-          → IfErr r (λ e. Fails (state g old.conn.now) (state g new.conn.now) ⊥ e ⊎ IsUnchanged (state g old.conn.now) (state g new.conn.now))
-          → IsTrue (state g new.conn.now).is_open → IsAtRest (state g old.conn.now) → IsSame (state g old.conn.now) (state g new.conn.now)
-      either (Ok x) same kept live rest = unchanged_same _ _ same
-      either (Err e) same (inl fails) live rest = fails_same _ _ ⊥ e fails live rest
-      either (Err e) same (inr is) live rest = unchanged_same _ _ is

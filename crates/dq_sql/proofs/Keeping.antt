@@ -17,8 +17,8 @@ use Rattle.dq_sql.specs.Reading.{HoldsOf}
 use Rattle.dq_sql.specs.Writing.{IsMade, IsUndone, Commits}
 use Rattle.dq_sql.specs.Keeping.{KeepsSoundRows, MayLeave, under_schema}
 use Rattle.dq_sql.specs.Kept.{one_list, kept_sound}
-use Rattle.dq_sql.specs.declared.known.Known.{Known}
-use Rattle.dq_sql.specs.Counts.{AreKnown}
+use Rattle.dq_sql.specs.declared.counts.Counts.{Counts}
+use Rattle.dq_sql.specs.Counts.{AreRight}
 
 pub rows_set : IsSet (List Row)
 rows_set = Coded-set (coded_list the_row.coded)
@@ -38,20 +38,12 @@ abbrev pub Kept : Connected → List Row → Type 0
 Kept s rows = ∥ (HasCleanDisk s → KeepsSoundRows s rows) ∥₁
 
 -- what is remembered of how many rows there are
-abbrev pub Counted : Connected → List Row → Known → Type 0
-Counted s rows counts = ∥ (HasCleanDisk s → AreKnown rows counts) ∥₁
+abbrev pub Counted : Connected → List Row → Counts → Type 0
+Counted s rows counts = ∥ (HasCleanDisk s → AreRight rows counts) ∥₁
 
 -- it is as right after a call that changes no rows
-pub still_counted : (old new : Connected) (rows : List Row) (counts : Known) {P : Trees → Type 0} → Survives old new P → Counted old rows counts → Counted new rows counts
+pub still_counted : (old new : Connected) (rows : List Row) (counts : Counts) {P : Trees → Type 0} → Survives old new P → Counted old rows counts → Counted new rows counts
 still_counted old new rows counts survives counted = ∥∥₁_map counted (λ right clean. right (omega (arith, survives.clean)))
-
--- what was learnt of the rows that a connection has is as right
-pub learnt_counted : (old new : Connected) (rows : List Row) (before after_it : Known) → Stays old new → Kept old rows → Counted old rows before
-    → (HasCleanDisk new → (r : List Row) → (IsTrue old.is_open → HasRows old.now r) → AreKnown r before → AreKnown r after_it) → Counted new rows after_it
-learnt_counted old new rows before after_it stays kept counted learns =
-    ∥∥₁_elim kept squash₁ (λ k. ∥∥₁_map counted (λ right clean.
-    let was : HasCleanDisk old = omega (arith, stays.survives.clean) in
-    learns clean rows (k was).has (right was)))
 
 -- what was read of the rows that a connection has is so of the rows that are kept
 pub found_in : {X : Type 0} → IsSet X → (s : Connected) (rows : List Row) (f : List Row → X) (x : X) → Kept s rows → HasCleanDisk s → HoldsOf s (λ r. x ≡ f r) → x ≡ f rows
@@ -132,9 +124,9 @@ module _ (old new : Connected) (rows : List Row) where
         ]
 
 -- and so it is of a change that it follows
-pub followed_counted : (old new : Connected) (rows : List Row) (change : Change) (before after_it : Known) {P : Trees → Type 0} → Survives old new P → Kept old rows
+pub followed_counted : (old new : Connected) (rows : List Row) (change : Change) (before after_it : Counts) {P : Trees → Type 0} → Survives old new P → Kept old rows
     → (HasCleanDisk old → ChangeFits rows change) → Counted old rows before
-    → (IsRising rows → ChangeFits rows change → AreKnown rows before → AreKnown (after (operation_of change) rows) after_it)
+    → (IsRising rows → ChangeFits rows change → AreRight rows before → AreRight (after (operation_of change) rows) after_it)
     → Counted new (after (operation_of change) rows) after_it
 followed_counted old new rows change before after_it survives kept fits counted follows =
     ∥∥₁_map counted (λ right clean.

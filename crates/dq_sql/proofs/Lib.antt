@@ -1,13 +1,9 @@
 mod Added
 mod Counted
-mod CountsAbove
 mod Counting
 mod Filled
 mod Found
 mod Inserted
-mod KeysAbove
-mod RowsAbove
-mod WholeRows
 mod Judged
 mod Judgements
 mod Keeping

@@ -35,7 +35,3 @@ module _ (d : Database) where
   pub step_made : (e f : Database) (row : Row) (keys : List (List ℕ)) → AddsRow d e row → StartsEach e f row.inst keys → MakesChange d f (StepAdded row keys)
   step_made e f row keys adds starts rows has fits =
       starts (after_edit row.inst (Put (record_of row)) rows) (adds rows has (free_place rows Step row fits.step_new))
-
-  pub step_changed : (e : Database) (row : Row) → Replaces d e row → MakesChange d e (StepChanged row)
-  step_changed e row replaces rows has fits =
-      replaces rows has (subst (λ (k : Kind). is_some (row_at k row.inst row.key rows) ≡ true) (sym fits.kind_is) fits.there)

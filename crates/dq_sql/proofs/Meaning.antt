@@ -24,8 +24,9 @@ use Rattle.sqlite.proofs.Callers.{reads_as, one_permutation}
 use Rattle.dq_tables.specs.declared.row.Kind.{Kind}
 use Rattle.dq_tables.specs.declared.row.Kind.TheVariants.{Entry}
 use Rattle.dq_tables.specs.declared.row.Row.{Row}
-use Rattle.dq_tables.specs.Rows.{RowPlace, place, number_of_kind, IsRising, row_place_of, row_place_order}
-use Rattle.dq_tables.specs.Finding.{same_kind, is_of_kind, row_at, rows_of, rows_above, waiting_entries}
+use Rattle.dq_tables.specs.Rows.{octet_order, RowPlace, place, number_of_kind, IsRising, row_place_of, row_place_order}
+use Rattle.std.specs.Ordering.{is_gt}
+use Rattle.dq_tables.specs.Finding.{same_kind, is_of_kind, row_at, rows_of, rows_above, rows_after, waiting_entries}
 use Rattle.dq_tables.proofs.InOrder.{is_eq_nat}
 use Rattle.dq_tables.proofs.Listing.{one_kind}
 use Rattle.dq_tables.proofs.Order.{rows_total, each_passed, filter_all, IsRising-filter, both_tests}
@@ -35,13 +36,13 @@ use Rattle.dq_sql.specs.Schema.{schema_of}
 use Rattle.dq_sql.specs.Cells.{flag}
 use Rattle.dq_sql.specs.Tie.{row_of_cells, IsKeptRow, as_unstarted}
 use Rattle.dq_sql.specs.Reading.{ShowsNoWrite, HoldsOf, Shows, kept_shown, numbers_shown, IsCount, selected_columns, row_shown}
-use Rattle.dq_sql.proofs.Queries.{Means, selecting, of_tests, at_tests, above_tests, waiting_tests, shown_columns, by_id, row_text, of_text, window_text, above_text, waiting_text, row_means, of_means, window_means, above_means, waiting_means, count_text, count_above_text, count_means, count_above_means, all_text, all_columns, by_place, all_means, version_text, version_means}
+use Rattle.dq_sql.proofs.Queries.{Means, selecting, of_tests, at_tests, after_tests, above_tests, waiting_tests, shown_columns, by_id, row_text, of_text, window_text, after_text, above_text, waiting_text, row_means, of_means, window_means, after_means, above_means, waiting_means, count_text, count_above_text, count_means, count_above_means, all_text, all_columns, by_place, all_means, version_text, version_means}
 use Rattle.dq_sql.proofs.Selecting.{with_row, passes, chosen, selection, selection_rows}
 use Rattle.dq_sql.proofs.Found.{found_rows, listed_rows}
 use Rattle.dq_sql.proofs.Counting.{count_answer, size_found}
 use Rattle.dq_sql.proofs.Selected.{first_kept}
-use Rattle.dq_sql.proofs.Placed.{equals, equals-Int, equals-Text, equals-Blob}
-use Rattle.dq_sql.proofs.Silent.{row_silent, of_silent, window_silent, above_silent, waiting_silent, count_silent, count_above_silent, all_one_silent, all_two_silent, version_silent}
+use Rattle.dq_sql.proofs.Placed.{equals, equals-Int, equals-Text, equals-Blob, is_behind, is_behind-Blob}
+use Rattle.dq_sql.proofs.Silent.{row_silent, of_silent, window_silent, after_silent, above_silent, waiting_silent, count_silent, count_above_silent, all_one_silent, all_two_silent, version_silent}
 use Rattle.dq_sql.proofs.Staying.{shown_unchanged}
 
 pub answer_of : (version : Version) (text : List ℕ) (q : Query) → Means version text q → (params : Values) (old new : State) → old.now.schema ≡ schema_of version
@@ -84,6 +85,16 @@ at_finds : (kind : Kind) (inst key : List ℕ) (r : Values) → IsKeptRow r
 at_finds kind inst key r h =
     rw (kind_test (column r 1) (row_of_cells r).kind kind h.kind, text_test (column r 2) (row_of_cells r).inst inst h.inst, blob_test (column r 3) (row_of_cells r).key key h.key)
     (three (same_kind (row_of_cells r).kind kind) (bytes_eq (row_of_cells r).inst inst) (bytes_eq (row_of_cells r).key key))
+
+after_finds : (kind : Kind) (inst key : List ℕ) (more r : Values) → IsKeptRow r
+    → passes after_tests (of_params kind inst (Blob key ∷ more)) r ≡ (is_of_kind kind inst (row_of_cells r) && is_gt (octet_order (row_of_cells r).key key))
+after_finds kind inst key more r h =
+    rw (
+      kind_test (column r 1) (row_of_cells r).kind kind h.kind,
+      text_test (column r 2) (row_of_cells r).inst inst h.inst,
+      ap (λ v. is_behind v (Blob key)) h.key ∙ is_behind-Blob (row_of_cells r).key key,
+    )
+    (three (same_kind (row_of_cells r).kind kind) (bytes_eq (row_of_cells r).inst inst) (is_gt (octet_order (row_of_cells r).key key)))
 
 above_finds : (kind : Kind) (inst above : List ℕ) (r : Values) → IsKeptRow r
     → passes above_tests (of_params kind inst (Blob above ∷ [])) r ≡ (is_of_kind kind inst (row_of_cells r) && bytes_eq (row_of_cells r).above above)
@@ -185,6 +196,36 @@ module _ (old new : State) (kind : Kind) (inst : List ℕ) (answer : List Values
             ∙ sym (take-map (row_shown kind inst) most (drop from all))
             ∙ ap (take most) (sym (drop-map (row_shown kind inst) from all))
             ∙ ap (λ (l : List Row). take most (drop from l)) (listed_rows of_tests params kind inst (is_of_kind kind inst) (of_finds kind inst more) (of_own kind inst) old.now rows all has s);
+      }
+
+  -- what is answered are the first of all that are behind the key
+  pub found_after : (key : List ℕ) (most : ℕ) → Shown after_text (of_params kind inst (Blob key ∷ Int (pos most) ∷ [])) old new answer
+      → HoldsOf old (λ rows. map (row_shown kind inst) answer ≡ take most (rows_after kind inst key rows))
+  unfolding rows_of rows_after
+  found_after key most h =
+      let more : Values = Int (pos most) ∷ [] in
+      let params : Values = of_params kind inst (Blob key ∷ more) in
+      let after : Row → Bool = λ row. is_gt (octet_order row.key key) in
+      record {
+        is_open = (shown_unchanged after_text params old new after_silent answer h).0.was_open;
+        of_rows = λ rows has.
+            let a = answer_of Two after_text _ after_means params old new has.version_is.schema answer h in
+            let all : List Values = map (λ (o : Output). o.1) a.ordered in
+            let whole : IsAnswer (selecting 0 after_tests None shown_columns by_id) (overlay old.now.trees []) params all = record {
+              staged = a.staged;
+              grouped = a.grouped;
+              kept = a.kept;
+              distinct = a.distinct;
+              ordered = a.ordered;
+              same = a.same;
+              sorted = a.sorted;
+              shown = refl;
+            } in
+            let s = selection 0 after_tests shown_columns by_id old.now.trees params all refl whole in
+            ap (map (row_shown kind inst)) a.shown
+            ∙ sym (take-map (row_shown kind inst) most all)
+            ∙ ap (take most) (listed_rows after_tests params kind inst (λ row. is_of_kind kind inst row && after row) (after_finds kind inst key more) (and_own kind inst after) old.now rows all has s
+            ∙ sym (both_tests (is_of_kind kind inst) after rows));
       }
 
   pub found_above : (above : List ℕ) → Shown above_text (of_params kind inst (Blob above ∷ [])) old new answer

@@ -29,9 +29,6 @@ survives_itself s P = record {
 same_itself : (s : State) → IsTrue s.is_open → IsSame s s
 same_itself s opened = record { was_open = opened; now = refl; committed = refl }
 
-pub stays_itself : (s : State) → Stays s s
-stays_itself s = record { survives = survives_itself s _; mode = λ h. h; same = λ clean opened rest. same_itself s opened }
-
 pub by_fault : {A E : Type 0} (r : Result A E) (P : E → Type 0) {fault : E} → IsErrAnd r (λ e. e ≡ fault) → P fault → IfErr r P
 by_fault (Ok x) P is p = tt
 by_fault (Err e) P is p = rw is p
@@ -55,11 +52,6 @@ not_blamed old left fault plain = record {
   bad = λ clean bad. absurd (not_bad fault plain bad);
 }
 
--- what the two faults of a store that fails are called
-pub plain_fault : (cause : StoreFault) → (cause ≡ store.NoMemory) ⊎ (cause ≡ store.Store) → IsPlain (fault_of_migration cause)
-plain_fault cause (inl is) = inl (ap fault_of_migration is)
-plain_fault cause (inr is) = inr (ap fault_of_migration is)
-
 -- a fault by which the old store is refused
 pub told_by : (old left : State) (cause : StoreFault) → (HasCleanDisk left → cause ≡ store.WrongVersion → ShowsAnother One old left)
     → (HasCleanDisk left → cause ≡ store.BadRows → IsOfVersion One old.now)
@@ -76,14 +68,6 @@ told_by old left store.BadRows wrong said bad = record {
   wrong = λ clean is. absurd (cc);
   said = λ clean is. said clean refl;
   bad = λ clean is. bad clean refl;
-}
-
--- a refusal before the new store is touched
-pub untouched : (old left new : State) → IsNotMigrated old left new new
-untouched old left new = record {
-  survives = survives_itself new _;
-  mode = λ out. out;
-  same = λ clean opened rest. same_itself new opened;
 }
 
 -- the new store is not made

@@ -72,9 +72,6 @@ module _ (p : RowPlace) (d : Database) (rows : List Row) (has : HasRows d rows) 
   t : List Values
   t = d.trees 0
 
-  others : List Values
-  others = filter (λ r. not (holds_at p r)) (d.trees 0)
-
   the_id : (x : Values) → filter (holds_at p) (d.trees 0) ≡ x ∷ [] → rowid x ≡ Int (id_in (rowid x))
   the_id x one = int_of (rowid x) (subst (AllByRecursion (λ r. IsTrue (is_int (rowid r)))) one (each_filtered _ (holds_at p) (d.trees 0) has.table.ids)).0
 

@@ -40,9 +40,6 @@ went (inr on) = on
 same_value : {B E : Type 0} {a b : B} → ◌≡◌ {A = Result B E} (Ok a) (Ok b) → a ≡ b
 same_value e = cc
 
-pub goes_on : (sql : List ℕ) (old new : State) (count : ℕ) → ExecutesInside 0 sql [] old new (Ok count) → StoreGoesOn old new
-goes_on sql old new count h = record { was_open = h.1.was_open; is_open = h.1.is_open; committed = h.1.committed_is; inside = h.1.mode }
-
 pub makes_kept : (old new : State) (count : ℕ) → ExecutesInside 0 kept_text [] old new (Ok count) → MakesKept old.now new.now
 makes_kept old new count h has =
     let w = subst (λ t. Writes old new None CreateTable t [] count) kept_is.1 (runs_as kept_text [] old new no_schema has CreateTable kept_is.0 kept_plain count h.0) in

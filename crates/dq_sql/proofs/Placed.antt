@@ -1,7 +1,7 @@
 -- Which rows of the table the statements find.
 use Rattle.std.proofs.Common.{◌≡◌, ℕ, pos, Bool, true, false, ◌&&◌, List, [], ◌∷◌, refl, sym, ◌∙◌, ap, arith}
 use Rattle.std.specs.List.{list_all}
-use Rattle.std.specs.Ordering.{is_eq, nat_cmp, int_cmp, ordering_then}
+use Rattle.std.specs.Ordering.{is_eq, is_gt, nat_cmp, int_cmp, ordering_then}
 use Rattle.std.proofs.lemmas.Bool.Decides.{nat_tests}
 use Rattle.sqlite_value.specs.declared.value.Value.{Value}
 use Rattle.sqlite_value.specs.declared.value.Value.TheVariants.{Int, Text, Blob}
@@ -9,7 +9,7 @@ use Rattle.sqlite_value.specs.declared.keys.Collation.TheVariants.{Binary}
 use Rattle.sqlite_value.specs.Order.{Row as Values, column}
 use Rattle.sqlite_value.proofs.OrderLemmas.{value_cmp-Int, value_cmp-Text, value_cmp-Blob}
 use Rattle.sqlite_sql.specs.declared.ops.BinaryOp.TheVariants.{Compare}
-use Rattle.sqlite_sql.specs.declared.ops.CompareOp.TheVariants.{Eq}
+use Rattle.sqlite_sql.specs.declared.ops.CompareOp.TheVariants.{Eq, Gt}
 use Rattle.sqlite_sql.specs.Ops.{binary, is_true, from_truth}
 use Rattle.sqlite_sql.specs.Term.{holds}
 use Rattle.std.proofs.Common.{Some}
@@ -43,6 +43,14 @@ equals-Text s t = from_test _ ∙ ap is_eq (value_cmp-Text s t)
 pub equals-Blob : (s t : List ℕ) → equals (Blob s) (Blob t) ≡ is_eq (octet_order s t)
 unfolding binary
 equals-Blob s t = from_test _ ∙ ap is_eq (value_cmp-Blob s t)
+
+-- whether a value is behind another, as WHERE tests it
+abbrev pub is_behind : Value → Value → Bool
+is_behind a b = is_true (binary (Compare Gt Binary) a b)
+
+pub is_behind-Blob : (s t : List ℕ) → is_behind (Blob s) (Blob t) ≡ is_gt (octet_order s t)
+unfolding binary
+is_behind-Blob s t = from_test _ ∙ ap is_gt (value_cmp-Blob s t)
 
 grouped : (a b c : Bool) → (a && (b && (c && true))) ≡ ((a && b) && c)
 grouped true true true = refl

@@ -5,7 +5,7 @@ use Rattle.sqlite_value.specs.declared.keys.Collation.TheVariants.{Binary}
 use Rattle.sqlite_value.specs.declared.keys.Key.{Key}
 use Rattle.sqlite_value.specs.Keys.{ascending}
 use Rattle.sqlite_sql.specs.declared.ops.BinaryOp.TheVariants.{Compare}
-use Rattle.sqlite_sql.specs.declared.ops.CompareOp.TheVariants.{Eq}
+use Rattle.sqlite_sql.specs.declared.ops.CompareOp.TheVariants.{Eq, Gt}
 use Rattle.sqlite_sql.specs.declared.aggregate.AggregateOp.TheVariants.{CountRows}
 use Rattle.sqlite_sql.specs.Term.{Term, lit, col, op2}
 use Rattle.sqlite_sql.specs.Group.{Grouping}
@@ -47,6 +47,10 @@ at_tests = column_is 1 0 ∷ column_is 2 1 ∷ column_is 3 2 ∷ []
 abbrev pub above_tests : List Term
 above_tests = column_is 1 0 ∷ column_is 2 1 ∷ column_is 4 2 ∷ []
 
+-- those with a key behind one
+abbrev pub after_tests : List Term
+after_tests = column_is 1 0 ∷ column_is 2 1 ∷ op2 (Compare Gt Binary) (col 1 3) (col 0 2) ∷ []
+
 -- those that are not started
 abbrev pub waiting_tests : List Term
 waiting_tests = column_is 1 0 ∷ column_is 2 1 ∷ op2 (Compare Eq Binary) (col 1 8) (lit (Int (pos 0))) ∷ []
@@ -60,6 +64,10 @@ by_id = (col 1 3, ascending Binary) ∷ []
 -- the rows of a kind and an institution by their keys: as many as the third parameter says, behind as many as the fourth says
 abbrev pub of_window : Query
 of_window = record (selecting 0 of_tests None shown_columns by_id) { limit = col 0 2; offset = col 0 3 }
+
+-- those with a key behind the third parameter, by their keys: as many as the fourth says
+abbrev pub of_page : Query
+of_page = record (selecting 0 after_tests None shown_columns by_id) { limit = col 0 3 }
 
 abbrev pub count_grouping : Grouping
 count_grouping = record {
@@ -87,6 +95,9 @@ of_text = codes "SELECT id, above, octets, started FROM kept WHERE kind = ?1 AND
 
 abbrev pub window_text : List ℕ
 window_text = codes "SELECT id, above, octets, started FROM kept WHERE kind = ?1 AND inst = ?2 ORDER BY id LIMIT ?3 OFFSET ?4"
+
+abbrev pub after_text : List ℕ
+after_text = codes "SELECT id, above, octets, started FROM kept WHERE kind = ?1 AND inst = ?2 AND id > ?3 ORDER BY id LIMIT ?4"
 
 abbrev pub above_text : List ℕ
 above_text = codes "SELECT id, above, octets, started FROM kept WHERE kind = ?1 AND inst = ?2 AND above = ?3 ORDER BY id"
@@ -144,6 +155,10 @@ of_means = record { names = names; is = refl; plain = (refl, refl); unlisted = r
 pub window_means : Means Two window_text of_window
 unfolding understood everything schema_of
 window_means = record { names = names; is = refl; plain = (refl, refl); unlisted = refl }
+
+pub after_means : Means Two after_text of_page
+unfolding understood everything schema_of
+after_means = record { names = names; is = refl; plain = (refl, refl); unlisted = refl }
 
 pub above_means : Means Two above_text (selecting 0 above_tests None shown_columns by_id)
 unfolding understood everything schema_of

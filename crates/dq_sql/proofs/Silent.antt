@@ -13,7 +13,7 @@ use Rattle.sqlite_tied.specs.Compute.{everything}
 use Rattle.sqlite.specs.Listing.{understood, if_select, is_select, reads_listing, listing_schema}
 use Rattle.dq_sql.specs.declared.version.Version.TheVariants.{One, Two}
 use Rattle.dq_sql.specs.Reading.{ShowsNoWrite}
-use Rattle.dq_sql.proofs.Queries.{row_text, of_text, window_text, above_text, waiting_text, count_text, told_text, count_above_text, all_text, version_text}
+use Rattle.dq_sql.proofs.Queries.{row_text, of_text, window_text, after_text, above_text, waiting_text, count_text, told_text, count_above_text, all_text, version_text}
 
 abbrev returning_in : Schema → ℕ → Checked Parsed → Checked (Option Returning)
 returning_in schema base (Ok p) = returning schema base p.statement
@@ -79,6 +79,13 @@ window_bare schema base = refl
 
 pub window_silent : ShowsNoWrite window_text
 window_silent = bare_shows window_text window_bare
+
+after_bare : IsBare after_text
+unfolding everything
+after_bare schema base = refl
+
+pub after_silent : ShowsNoWrite after_text
+after_silent = bare_shows after_text after_bare
 
 above_bare : IsBare above_text
 unfolding everything

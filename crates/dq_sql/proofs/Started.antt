@@ -184,19 +184,6 @@ all_append : (os ps : List Operation) (rows : List Row) → after_all (os ++ ps)
 all_append [] ps rows = refl
 all_append (o ∷ os) ps rows = all_append os ps (after o rows)
 
--- one more row
-steps_more : (rows : List Row) (i : ℕ) (row : Row) → i < length rows → row ≡ get_or rows i row
-    → steps_among (take (i + 1) rows) ≡ steps_among (take i rows) ++ steps_among (row ∷ [])
-steps_more rows i row within is =
-    ap steps_among (take_more rows i row within ∙ ap (λ r. take i rows ++ r ∷ []) (sym is))
-    ∙ filter-append (λ (r : Row). same_kind r.kind Step) (take i rows) (row ∷ [])
-
-pub no_step : (rows : List Row) (i : ℕ) (row : Row) (all : List NamedEntries) → i < length rows → row ≡ get_or rows i row
-    → same_kind row.kind Step ≡ false → map starting_operation all ≡ map starts_of (steps_among (take i rows))
-    → map starting_operation all ≡ map starts_of (steps_among (take (i + 1) rows))
-no_step rows i row all within is kind had =
-    had ∙ ap (map starts_of) (sym (steps_more rows i row within is ∙ rw kind (append-nil (steps_among (take i rows)))))
-
 -- what one more step starts
 pub next_starts : (all : List NamedEntries) (i : ℕ) (starts : NamedEntries) (rows mid new : List Row) → i < length all → starts ≡ get_or all i starts
     → mid ≡ after_all (map starting_operation (take i all)) rows → new ≡ after (starting_operation starts) mid → new ≡ after_all (map starting_operation (take (i + 1) all)) rows

@@ -67,35 +67,8 @@ module _ (sql : List ℕ) (params : Values) (old new : State) (silent : ShowsNoW
 pub shows_same : (old new : State) → IsUnchanged old new → ShowsSame old new
 shows_same old new h = record { was_open = λ live. h.0.was_open; now = h.0.now_is }
 
-pub same_itself : (s : State) → ShowsSame s s
-same_itself s = record { was_open = λ live. live; now = refl }
-
 pub holds_before : (a b : State) (P : List Row → Type 0) → ShowsSame a b → HoldsOf b P → HoldsOf a P
 holds_before a b P same h = record {
   is_open = same.was_open h.is_open;
   of_rows = λ rows has. h.of_rows rows (subst (λ d. HasRows d rows) (sym same.now) has);
-}
-
-pub stays_itself : (s : State) → Stays s s
-stays_itself s = record {
-  survives = record { clean = omega arith; shield = λ h. h; counts = omega arith; limit = refl; closes = λ clean live. inl live; crash = λ clean db left. inl left };
-  mode = λ h. h;
-  same = λ clean live rest. record { was_open = live; now = refl; committed = refl };
-}
-
-rests : (a b : State) → Stays a b → HasCleanDisk b → IsAtRest a → IsAtRest b
-rests a b stays clean rest = record {
-  autocommit = stays.mode rest.autocommit;
-  settled = λ live. let it = stays.same clean live rest in it.now ∙ rest.settled it.was_open ∙ sym it.committed;
-}
-
-pub stays_then : (a b c : State) → Stays a b → Stays b c → Stays a c
-stays_then a b c one two = record {
-  survives = survives_then a b c _ _ _ (λ clean db none. none) (λ clean db none. none) one.survives two.survives;
-  mode = λ h. two.mode (one.mode h);
-  same = λ clean live rest.
-      let between : HasCleanDisk b = omega (arith, two.survives.clean) in
-      let later = two.same clean live (rests a b one between rest) in
-      let sooner = one.same between later.was_open rest in
-      record { was_open = sooner.was_open; now = later.now ∙ sooner.now; committed = later.committed ∙ sooner.committed };
 }

@@ -1,12 +1,9 @@
--- What is remembered of rows, and of how many there are.
+-- What is remembered of how many rows there are.
 use Rattle.std.specs.Prelude.{◌≡◌, List, ◌∷◌, length, All, Option, Some, None, IfSome}
 use Rattle.dq_tables.specs.declared.row.Row.{Row}
 use Rattle.dq_tables.specs.Finding.{rows_of}
 use Rattle.dq_sql.specs.declared.counts.Count.{Count}
 use Rattle.dq_sql.specs.declared.counts.Counts.{Counts}
-use Rattle.dq_sql.specs.declared.known.Known.{Known}
-use Rattle.dq_sql.specs.CountsAbove.{CountsRows}
-use Rattle.dq_sql.specs.RowsAbove.{RowsAreKnown}
 
 -- The number, where it is known, is how many rows of the kind the institution has.
 abbrev pub IsRight : List Row → Count → Type 0
@@ -15,12 +12,6 @@ IsRight rows count =
 
 abbrev pub AreRight : List Row → Counts → Type 0
 AreRight rows counts = All (IsRight rows) counts.known.items
-
--- So it is of all that is known.
-abbrev pub AreKnown : List Row → Known → Type 0
-AreKnown rows known =
-    AreRight rows known.counts × IfSome known.under (λ u. CountsRows u.kind u.inst rows u.each.counts)
-    × RowsAreKnown rows known.rows
 
 -- the rows with one more, if there is one
 abbrev pub with_one_more : Option Row → List Row → List Row

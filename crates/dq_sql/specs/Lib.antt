@@ -12,9 +12,6 @@ pub mod Kept
 pub mod Adopting
 pub mod Copying
 pub mod Counts
-pub mod CountsAbove
-pub mod WholeRows
-pub mod RowsAbove
 pub mod Filling
 pub mod Migrating
 pub mod Migration

@@ -22,7 +22,6 @@ ghost use Rattle.dq_tables.specs.Choosing.{studies_in};
 use crate::judging::value_at;
 use crate::reading;
 use crate::reading::{answered, rows_shown};
-use crate::silents::Silents;
 use dq_list::Listed;
 use dq_tables::laws::day_numbers_are_in_order;
 use dq_tables::{Choice, Kind, Row, TableFault};
@@ -204,27 +203,27 @@ fn without_within<S: Alter>(
     }
 }
 
-/// So often are those read that do not say something: each time eight times as many, at last more than
-/// memory has room for.
+/// So many studies are read first for those that do not say something, and eight times as many each
+/// further time.
+const READ_FIRST: u32 = 8;
+
+/// So often they are read: at last more than memory has room for.
 const READINGS: usize = 10;
 
-/// The studies that do not say something. Eight more are read first than there were the last time, so
-/// that they are read once where few are new.
+/// The studies that do not say something.
 fn without<S: Alter>(
     conn: &mut Connection<S>,
     institution: &[u8],
     label: Label,
-    silents: &mut Silents,
 ) -> Result<Vec<sqlite::Row>, TableFault>
     ensures found { HasCleanDisk (state S.Store conn.new) → IfOk result (λ silent.
         HoldsOf (state S.Store conn.old) (λ rows.
         ShowsSilent label institution.now rows silent.items)) }
     ensures stays { Stays (state S.Store conn.old) (state S.Store conn.new) }
 {
-    let mut most = silents.most(institution, label);
+    let mut most = READ_FIRST;
     'more: for _ in 0..READINGS {
         if let Some(silent) = without_within(conn, institution, label, most)? {
-            silents.note(institution, label, silent.len());
             return Ok(silent);
         }
         most = most.saturating_mul(8);
@@ -280,7 +279,6 @@ fn with_key<S: Alter>(
 /// The studies of a patient, and those that do not say theirs.
 fn by_patient<S: Alter>(
     conn: &mut Connection<S>,
-    silents: &mut Silents,
     alloc: Global,
     institution: &[u8],
     patient: &[u8],
@@ -291,14 +289,13 @@ fn by_patient<S: Alter>(
     ensures stays { Stays (state S.Store conn.old) (state S.Store conn.new) }
 {
     let said = of_patient(conn, institution, patient)?;
-    let silent = without(conn, institution, Label::Patient, silents)?;
+    let silent = without(conn, institution, Label::Patient)?;
     shown_in_order(alloc, institution, said, silent)
 }
 
 /// The studies of the days that a choice asks for, and those that do not say theirs.
 fn by_days<S: Alter>(
     conn: &mut Connection<S>,
-    silents: &mut Silents,
     alloc: Global,
     institution: &[u8],
     choice: &Choice,
@@ -310,26 +307,14 @@ fn by_days<S: Alter>(
     ensures stays { Stays (state S.Store conn.old) (state S.Store conn.new) }
 {
     let said = of_days(conn, institution, choice.first_day, choice.last_day)?;
-    let silent = without(conn, institution, Label::Day, silents)?;
+    let silent = without(conn, institution, Label::Day)?;
     shown_in_order(alloc, institution, said, silent)
-}
-
-/// Whether a choice asks nothing of a study.
-pub(crate) fn takes_all(choice: &Choice) -> bool
-    ensures { IsTrue result → (institution : List ℕ) (rows : List Row)
-        → rows_of Study institution rows ≡ studies_in choice.now institution rows }
-{
-    choice.uid.is_none()
-        && choice.patient.is_none()
-        && choice.first_day.is_none()
-        && choice.last_day.is_none()
 }
 
 /// The institution's studies that a choice takes, in the order of their keys, by the first of its
 /// parts that asks something.
 pub(crate) fn studies_in<S: Alter>(
     conn: &mut Connection<S>,
-    silents: &mut Silents,
     alloc: Global,
     institution: &[u8],
     choice: &Choice,
@@ -344,11 +329,11 @@ pub(crate) fn studies_in<S: Alter>(
         return Ok(choice.among(alloc, rows)?);
     }
     if let Some(patient) = &choice.patient {
-        let rows = by_patient(conn, silents, alloc, institution, patient.as_slice())?;
+        let rows = by_patient(conn, alloc, institution, patient.as_slice())?;
         return Ok(choice.among(alloc, rows)?);
     }
     match (choice.first_day, choice.last_day) {
         (None, None) => reading::rows_of(conn, alloc, Kind::Study, institution),
-        _ => by_days(conn, silents, alloc, institution, choice),
+        _ => by_days(conn, alloc, institution, choice),
     }
 }

@@ -5,14 +5,13 @@ ghost use Rattle.sqlite_value.specs.declared.value.Value.TheVariants.{Blob};
 ghost use Rattle.sqlite.specs.Values.{bound};
 ghost use Rattle.sqlite.specs.State.{HasCleanDisk, Shown};
 ghost use Rattle.sqlite.specs.Held.{state};
-ghost use Rattle.dq_tables.specs.Finding.{row_at, rows_of, rows_above, waiting_entries};
+ghost use Rattle.dq_tables.specs.Finding.{row_at, rows_of, rows_above, rows_after, waiting_entries};
 ghost use Rattle.dq_sql.specs.Tie.{is_set, Stays};
 ghost use Rattle.dq_sql.specs.Adopting.{IsJudged, number_query, FailsBy};
 ghost use Rattle.dq_sql.specs.Opening.{store_fault, of_tables};
 ghost use Rattle.dq_sql.specs.Reading.{ShowsNoWrite, ShowsSame, HoldsOf, Shows, kept_shown, numbers_shown, IsCount, row_shown};
 
 use crate::judgement::Judgement;
-use crate::rows_above::copies;
 use crate::version::Version;
 use crate::window::Window;
 use dq_list::Listed;
@@ -191,7 +190,7 @@ pub(crate) fn rows_from<S: Alter>(
 {
     let Some((limit, offset)) = window.limit_and_offset() else {
         let rows = rows_of(conn, alloc, kind, institution)?;
-        return Ok(copies(alloc, window.of(rows.as_slice()))?);
+        return Ok(window.of(rows));
     };
     let answer = answered(
         conn,
@@ -201,6 +200,39 @@ pub(crate) fn rows_from<S: Alter>(
             ValueRef::Text(institution),
             limit,
             offset,
+        ],
+    )?;
+    rows_shown(alloc, kind, institution, answer.as_slice())
+}
+
+/// Those among them with keys behind a key, at most so many. More than SQL has numbers for find no
+/// memory.
+#[tactic(auto, using(crate::proofs::Silent::after_silent))]
+pub(crate) fn rows_after<S: Alter>(
+    conn: &mut Connection<S>,
+    alloc: Global,
+    kind: Kind,
+    institution: &[u8],
+    key: &[u8],
+    most: usize,
+) -> Result<Listed<Row>, TableFault>
+    ensures found { HasCleanDisk (state S.Store conn.new) → IfOk result (λ list.
+        HoldsOf (state S.Store conn.old) (λ rows.
+        list ≡ take most (rows_after kind institution.now key.now rows))) }
+    ensures stays { Stays (state S.Store conn.old) (state S.Store conn.new) }
+{
+    let page = Window { from: 0, most };
+    let Some((limit, _)) = page.limit_and_offset() else {
+        return Err(TableFault::NoMemory);
+    };
+    let answer = answered(
+        conn,
+        "SELECT id, above, octets, started FROM kept WHERE kind = ?1 AND inst = ?2 AND id > ?3 ORDER BY id LIMIT ?4",
+        &[
+            u32::from(kind.number()).to_sql(),
+            ValueRef::Text(institution),
+            ValueRef::Blob(key),
+            limit,
         ],
     )?;
     rows_shown(alloc, kind, institution, answer.as_slice())

@@ -7,17 +7,15 @@ ghost use Rattle.dq_tables.specs.declared.fault.TableFault.TheVariants.{Store};
 ghost use Rattle.dq_tables.specs.declared.row.Row.{Row};
 ghost use Rattle.dq_sql.specs.Keeping.{KeepsSoundRows, under_schema};
 ghost use Rattle.dq_sql.specs.Tie.{HasRows};
-ghost use Rattle.dq_sql.specs.Counts.{AreKnown};
+ghost use Rattle.dq_sql.specs.Counts.{AreRight};
 ghost use Rattle.dq_sql.specs.Restarting.{ImageHoldsRows, HoldsAlone};
 ghost use Rattle.sqlite_wal.specs.Files.{outcomes};
 ghost use Rattle.sqlite_wal.specs.Reads.{AreClean};
 ghost use Rattle.sqlite_wal.specs.Recovery.{Image};
 
+use crate::counts::Counts;
 use crate::fault::StoreFault;
 use crate::history::History;
-use crate::known::Known;
-use crate::rows_above::copies;
-use crate::silents::Silents;
 use crate::window::Window;
 use crate::{choosing, reading, writing};
 use dq_list::Listed;
@@ -34,23 +32,11 @@ pub struct SqlTables<S: Alter> {
     alloc: Global,
     failed: bool,
     pub(crate) history: History,
-    known: Known,
-    silents: Silents,
+    counts: Counts,
     ghost alone: { conn.in_transaction ≡ false },
     ghost keeps: { ∥ (HasCleanDisk (state S.Store conn)
         → KeepsSoundRows (state S.Store conn) history.rows) ∥₁ },
-    ghost counted: { ∥ (HasCleanDisk (state S.Store conn) → AreKnown history.rows known) ∥₁ },
-}
-
-/// A list of so many rows of 1 KiB is still remembered.
-const MOST_REMEMBERED: u64 = 32_768;
-
-/// Whether a list of so many rows, if that is known, is remembered once it is read.
-fn is_remembered(number: Option<u64>) -> bool {
-    match number {
-        Some(number) => number <= MOST_REMEMBERED,
-        None => false,
-    }
+    ghost counted: { ∥ (HasCleanDisk (state S.Store conn) → AreRight history.rows counts) ∥₁ },
 }
 
 /// The answer, whose failure of the store is noted.
@@ -81,8 +67,7 @@ impl<S: Alter> SqlTables<S> {
             alloc,
             failed: false,
             history: History::from_rows(rows),
-            known: Known::new(alloc),
-            silents: Silents::new(alloc),
+            counts: Counts::new(alloc),
         }
     }
 
@@ -105,8 +90,7 @@ impl<S: Alter> SqlTables<S> {
             alloc: _,
             failed: _,
             history: _,
-            known: _,
-            silents: _,
+            counts: _,
         } = self;
         conn
     }
@@ -167,14 +151,8 @@ impl<S: Alter> Tables for SqlTables<S> {
     }
 
     fn rows_of(&mut self, kind: Kind, institution: &[u8]) -> Result<Listed<Row>, TableFault> {
-        if let Some(rows) = self.known.get_whole(self.alloc, kind, institution)? {
-            return Ok(rows);
-        }
         let answer = reading::rows_of(&mut self.conn, self.alloc, kind, institution);
-        let rows = noted(&mut self.failed, answer)?;
-        self.known
-            .note_whole(self.alloc, kind, institution, rows.as_slice());
-        Ok(rows)
+        noted(&mut self.failed, answer)
     }
 
     fn rows_from(
@@ -185,15 +163,18 @@ impl<S: Alter> Tables for SqlTables<S> {
         most: usize,
     ) -> Result<Listed<Row>, TableFault> {
         let window = Window { from, most };
-        if let Some(rows) = self.known.get_from(self.alloc, kind, institution, window)? {
-            return Ok(rows);
-        }
-        let number = self.known.get(kind, institution);
-        if window.is_far() && is_remembered(number) {
-            let rows = self.rows_of(kind, institution)?;
-            return Ok(copies(self.alloc, window.of(rows.as_slice()))?);
-        }
         let answer = reading::rows_from(&mut self.conn, self.alloc, kind, institution, window);
+        noted(&mut self.failed, answer)
+    }
+
+    fn rows_after(
+        &mut self,
+        kind: Kind,
+        institution: &[u8],
+        key: &[u8],
+        most: usize,
+    ) -> Result<Listed<Row>, TableFault> {
+        let answer = reading::rows_after(&mut self.conn, self.alloc, kind, institution, key, most);
         noted(&mut self.failed, answer)
     }
 
@@ -203,13 +184,6 @@ impl<S: Alter> Tables for SqlTables<S> {
         institution: &[u8],
         above: &[u8],
     ) -> Result<Listed<Row>, TableFault> {
-        if let Some(rows) = self.known.get_rows(self.alloc, kind, institution, above)? {
-            return Ok(rows);
-        }
-        let learnt = self
-            .known
-            .learn_rows(self.alloc, &mut self.conn, kind, institution);
-        noted(&mut self.failed, learnt)?;
         let answer = reading::rows_above(&mut self.conn, self.alloc, kind, institution, above);
         noted(&mut self.failed, answer)
     }
@@ -219,16 +193,7 @@ impl<S: Alter> Tables for SqlTables<S> {
         institution: &[u8],
         choice: &Choice,
     ) -> Result<Listed<Row>, TableFault> {
-        if choosing::takes_all(choice) {
-            return self.rows_of(Kind::Study, institution);
-        }
-        let answer = choosing::studies_in(
-            &mut self.conn,
-            &mut self.silents,
-            self.alloc,
-            institution,
-            choice,
-        );
+        let answer = choosing::studies_in(&mut self.conn, self.alloc, institution, choice);
         noted(&mut self.failed, answer)
     }
 
@@ -238,12 +203,12 @@ impl<S: Alter> Tables for SqlTables<S> {
     }
 
     fn count(&mut self, kind: Kind, institution: &[u8]) -> Result<u64, TableFault> {
-        if let Some(number) = self.known.get(kind, institution) {
+        if let Some(number) = self.counts.get(kind, institution) {
             return Ok(number);
         }
         let answer = reading::count(&mut self.conn, kind, institution);
         let number = noted(&mut self.failed, answer)?;
-        self.known.note(self.alloc, kind, institution, number)?;
+        self.counts.note(self.alloc, kind, institution, number)?;
         Ok(number)
     }
 
@@ -253,13 +218,6 @@ impl<S: Alter> Tables for SqlTables<S> {
         institution: &[u8],
         above: &[u8],
     ) -> Result<u64, TableFault> {
-        if let Some(number) = self.known.get_above(self.alloc, kind, institution, above)? {
-            return Ok(number);
-        }
-        let learnt = self
-            .known
-            .learn(self.alloc, &mut self.conn, kind, institution);
-        noted(&mut self.failed, learnt)?;
         let answer = reading::count_above(&mut self.conn, kind, institution, above);
         noted(&mut self.failed, answer)
     }
@@ -272,7 +230,7 @@ impl<S: Alter> Tables for SqlTables<S> {
         match writing::commit(&mut self.conn, self.alloc, change) {
             Ok(()) => {
                 self.history = self.history.then(change);
-                self.known.follow(change);
+                self.counts.follow(change);
                 Ok(())
             }
             Err(fault) => noted(&mut self.failed, Err(fault)),

@@ -3,6 +3,7 @@ ghost use Rattle.std.specs.Prelude.{◌≡◌, pos, take, drop, IfSome};
 ghost use Rattle.sqlite_value.specs.declared.value.Value.TheVariants.{Int};
 ghost use Rattle.sqlite_value.specs.Value.{owned};
 
+use dq_list::Listed;
 use dq_tables::Row;
 use sqlite::types::ValueRef;
 
@@ -13,21 +14,16 @@ pub(crate) struct Window {
     pub(crate) most: usize,
 }
 
-/// Behind so many rows SQL takes about as long to pass over them as to read them.
-const FAR: usize = 1000;
-
 impl Window {
-    /// Whether so many rows stand before it that a list which is remembered is worth its reading.
-    pub(crate) fn is_far(self) -> bool {
-        self.from >= FAR
-    }
-
     /// The rows of a list that stand in it.
-    pub(crate) fn of(self, rows: &[Row]) -> &[Row]
-        ensures { result.now ≡ take self.most (drop self.from rows.now) }
+    pub(crate) fn of(self, rows: Listed<Row>) -> Listed<Row>
+        ensures { result ≡ take self.most (drop self.from rows) }
     {
-        let past = &rows[self.from.min(rows.len())..];
-        &past[..self.most.min(past.len())]
+        let mut rows = rows.into_inner();
+        let before = self.from.min(rows.len());
+        let _ = rows.drain(..before);
+        rows.truncate(self.most);
+        Listed::from_inner(rows)
     }
 
     /// How many rows it has at most and how many it passes over, where SQL has such whole numbers.

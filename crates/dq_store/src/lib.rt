@@ -7,4 +7,4 @@ mod kept;
 pub mod laws;
 mod storing;
 
-pub use storing::store;
+pub use storing::{store, store_telling};

@@ -11,6 +11,7 @@ ghost use Rattle.dq_tables.specs.Keeping.{Goes, IsSettled};
 ghost use Rattle.dq_tables.specs.Serving.{Serves};
 ghost use Rattle.dq_archive.specs.Archives.{Decides};
 ghost use Rattle.dq_archive.specs.Deciding.{edits_in, answer_and_edits, FitsIf, IsOwn};
+ghost use Rattle.dq_archive.specs.Later.{IsTold};
 ghost use Rattle.dq_store.specs.Storing.{store_outcome, stored_edits, kept_among};
 ghost use Rattle.dq_store.specs.Storing.{study_record, series_record};
 ghost use Rattle.dq_store.specs.Views.{instance_of, instance_stored, records_kept, kept_status, HasUids, new_if, new_rows};
@@ -18,11 +19,12 @@ ghost use Rattle.dq_store.specs.Views.{instance_of, instance_stored, records_kep
 use crate::instance::Instance;
 use crate::keeping::KeptRows;
 use crate::kept::{kept_unless_refused, stored_status};
-use dq_archive::{Archive, Decision};
+use dq_archive::{Added, Archive, Decision};
 use dq_config::Institution;
 use dq_dataset::laws::{editing_law, fault_law, spelling_law, written_law};
 use dq_dataset::{Sifted, Syntax, can_be_written};
 use dq_dimse::{Body, Message, status};
+use dq_list::Listed;
 use dq_tables::{Change, Row, TableFault, Tables};
 use std::alloc::{AllocError, Global};
 
@@ -44,6 +46,30 @@ pub fn store<T: Tables>(
     ensures settles { (T.state tables.new).honest →
         OnOk result (IsSettled (T.state tables.old) → IsSettled (T.state tables.new)) }
 {
+    let mut added = Listed::empty(tables.alloc());
+    store_telling(tables, institution, message, syntax, &mut added)
+}
+
+/// Stores an instance as `store` does, and tells which studies, series and images are new.
+pub fn store_telling<T: Tables>(
+    tables: &mut T,
+    institution: &Institution,
+    message: &Message,
+    syntax: Syntax,
+    added: &mut Listed<Added>,
+) -> Result<u16, TableFault>
+    requires { is_stored message.now.command ≡ true }
+    // Whatever message this one stands for.
+    ensures serves { (sent : Received) → StandsFor syntax message.now sent →
+        Serves (T.state tables.old) (T.state tables.new) institution.now.name
+        (λ records. store_outcome (limits_of institution.now) records sent syntax) result }
+    ensures goes { Goes (T.state tables.old) (T.state tables.new) result }
+    ensures settles { (T.state tables.new).honest →
+        OnOk result (IsSettled (T.state tables.old) → IsSettled (T.state tables.new)) }
+    ensures told { (T.state tables.new).honest → OnOk result
+        (IsTold institution.now.name (T.state tables.old).rows (T.state tables.new).rows
+        added.old added.new) }
+{
     spelling_law();
     fault_law();
     let Body::Sifted(sifted) = &message.body else {
@@ -61,7 +87,7 @@ pub fn store<T: Tables>(
     if !can_be_written(data_set, Syntax::Explicit) {
         return Ok(status::OUT_OF_RESOURCES);
     }
-    store_instance(tables, institution, &sent)
+    store_instance(tables, institution, &sent, added)
 }
 
 /// Stores an instance that was read.
@@ -69,16 +95,20 @@ fn store_instance<T: Tables>(
     tables: &mut T,
     institution: &Institution,
     sent: &Instance<'_>,
+    added: &mut Listed<Added>,
 ) -> Result<u16, TableFault>
     requires lengths { HasLengths Explicit sent.now.data_set.now }
     requires own { HasUids sent.now }
-    ensures { Serves (T.state tables.old) (T.state tables.new) institution.now.name
+    ensures serves { Serves (T.state tables.old) (T.state tables.new) institution.now.name
         (λ records. instance_stored (limits_of institution.now) records sent.now.other
         (instance_of sent.now)) result }
+    ensures told { (T.state tables.new).honest → OnOk result
+        (IsTold institution.now.name (T.state tables.old).rows (T.state tables.new).rows
+        added.old added.new) }
 {
     let mut archive = Archive::new(tables, institution);
     let decision = decide_instance(&mut archive, sent)?;
-    archive.carry_out(decision)
+    archive.carry_out_telling(decision, added)
 }
 
 /// What an instance that was read makes of the records.

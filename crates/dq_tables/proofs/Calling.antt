@@ -48,11 +48,6 @@ pub reads_nothing : {A : Type 0} (it : State) (x : A) → Reads it it (Ok x)
 reads_nothing it x = grind arith
 
 module _ {Answer : Type 0} (institution : List ℕ) (does : List Record → Answer × List Edit) where
-  -- a service that is refused after calls that read
-  pub serves_fault : (old new : State) (e : TableFault) → Reads old new (refused Answer e)
-      → Serves old new institution does (Err e)
-  serves_fault old new e reads = grind arith
-
   -- a service that answers after calls that read, and changes nothing
   pub serves_read : (old new : State) (a : Answer) → Reads old new (Ok a)
       → (new.honest → does (of institution old.rows) ≡ (a, [])) → Serves old new institution does (Ok a)

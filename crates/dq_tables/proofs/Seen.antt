@@ -2,6 +2,7 @@
 use Rattle.std.proofs.Common.{◌≡◌, ℕ, Bool, true, false, not, List, [], ◌∷◌, map, length, take, drop, Option, Some, None, refl, ◌∙◌, ap, arith}
 use Rattle.std.specs.List.{filter}
 use Rattle.std.specs.Option.{option_map}
+use Rattle.std.specs.Ordering.{is_gt}
 use Rattle.std.specs.Str.{bytes_eq}
 use Rattle.std.proofs.lemmas.Slice.Eq.{bytes_eq-Decides}
 use Rattle.std.proofs.lemmas.List.{length-map, take-map, drop-map}
@@ -9,16 +10,12 @@ use Rattle.dq_tables.specs.declared.choice.Choice.{Choice}
 use Rattle.dq_tables.specs.declared.row.Kind.{Kind}
 use Rattle.dq_tables.specs.declared.row.Kind.TheVariants.{Study, Entry}
 use Rattle.dq_tables.specs.declared.row.Row.{Row}
-use Rattle.dq_tables.specs.Rows.{Record, of, row_of, record_of}
+use Rattle.dq_tables.specs.Rows.{Record, octet_order, of, row_of, record_of}
 use Rattle.dq_tables.specs.Choosing.{is_chosen, studies_in, studies_among}
-use Rattle.dq_tables.specs.Finding.{record_at, records_of, records_above, waiting_among, row_at, rows_of, rows_above, waiting_entries, same_kind}
+use Rattle.dq_tables.specs.Finding.{record_at, records_of, records_above, records_after, waiting_among, row_at, rows_of, rows_above, rows_after, waiting_entries, same_kind}
 
 own_row : (h : List ℕ) (row : Row) → bytes_eq row.inst h ≡ true → row ≡ row_of h (record_of row)
 own_row h row same = ap (λ (i : List ℕ). row_of i (record_of row)) ((bytes_eq-Decides row.inst h).0 same)
-
-record_back : (h : List ℕ) (r : Option Record) → option_map record_of (option_map (row_of h) r) ≡ r
-record_back h None = refl
-record_back h (Some r) = refl
 
 found_step : (kind : Kind) (h key : List ℕ) (row : Row) (rows : List Row) → row_at kind h key rows ≡ option_map (row_of h) (record_at kind key (of h rows))
     → (m k b : Bool) → bytes_eq row.inst h ≡ m → same_kind row.kind kind ≡ k → bytes_eq row.key key ≡ b
@@ -35,12 +32,6 @@ unfolding row_at record_at of
 found_own kind h key [] = refl
 found_own kind h key (row ∷ rows) =
     found_step kind h key row rows (found_own kind h key rows) (bytes_eq row.inst h) (same_kind row.kind kind) (bytes_eq row.key key) refl refl refl
-
--- the same as records
-pub found_record : (kind : Kind) (h key : List ℕ) (rows : List Row) (row : Option Row) → row ≡ row_at kind h key rows
-    → option_map record_of row ≡ record_at kind key (of h rows)
-found_record kind h key rows row found =
-    ap (option_map record_of) (found ∙ found_own kind h key rows) ∙ record_back h (record_at kind key (of h rows))
 
 listed_step : (kind : Kind) (h : List ℕ) (row : Row) (rows : List Row) → rows_of kind h rows ≡ map (row_of h) (records_of kind (of h rows))
     → (m k : Bool) → bytes_eq row.inst h ≡ m → same_kind row.kind kind ≡ k
@@ -81,6 +72,15 @@ pub window_own : (kind : Kind) (h : List ℕ) (from most : ℕ) (rows : List Row
 window_own kind h from most rows = ap (λ (rs : List Row). take most (drop from rs)) (listed_own kind h rows)
     ∙ ap (take most) (drop-map (row_of h) from (records_of kind (of h rows)))
     ∙ take-map (row_of h) most (drop from (records_of kind (of h rows)))
+
+pub after_own : (kind : Kind) (h key : List ℕ) (rows : List Row) → rows_after kind h key rows ≡ map (row_of h) (records_after kind key (of h rows))
+unfolding rows_after records_after
+after_own kind h key rows = ap (filter (λ (row : Row). is_gt (octet_order row.key key))) (listed_own kind h rows)
+    ∙ filter_map_row h (λ (row : Row). is_gt (octet_order row.key key)) (records_of kind (of h rows))
+
+pub page_own : (kind : Kind) (h key : List ℕ) (most : ℕ) (rows : List Row)
+    → take most (rows_after kind h key rows) ≡ map (row_of h) (take most (records_after kind key (of h rows)))
+page_own kind h key most rows = ap (take most) (after_own kind h key rows) ∙ take-map (row_of h) most (records_after kind key (of h rows))
 
 pub counted_own : (kind : Kind) (h : List ℕ) (rows : List Row) → length (rows_of kind h rows) ≡ length (records_of kind (of h rows))
 counted_own kind h rows = ap length (listed_own kind h rows) ∙ length-map (records_of kind (of h rows)) (row_of h)

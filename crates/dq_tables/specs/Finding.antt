@@ -1,10 +1,11 @@
 -- What is found among rows, and among the records of one institution.
 use Rattle.std.specs.Prelude.{◌≡◌, ℕ, ◌+◌, ◌<◌, ◌≤◌, take, drop, slice_get, None, Bool, not, ◌&&◌, List, filter, find, length, Option}
+use Rattle.std.specs.Ordering.{is_gt}
 use Rattle.std.specs.Str.{bytes_eq}
 use Rattle.dq_tables.specs.declared.row.Kind.{Kind}
 use Rattle.dq_tables.specs.declared.row.Kind.TheVariants.{Entry}
 use Rattle.dq_tables.specs.declared.row.Row.{Row}
-use Rattle.dq_tables.specs.Rows.{Record, RowPlace, rows_before, rows_past}
+use Rattle.dq_tables.specs.Rows.{Record, RowPlace, octet_order, rows_before, rows_past}
 unfoldable pub use Rattle.dq_tables.specs.Rows.{same_kind, record_at}
 
 -- the records of a kind, and those among them under another record
@@ -14,6 +15,11 @@ records_of kind records = filter (λ (r : Record). same_kind r.kind kind) record
 unfoldable pub records_above : Kind → List ℕ → List Record → List Record
 records_above kind above records =
     filter (λ (r : Record). bytes_eq r.above above) (records_of kind records)
+
+-- those of a kind with keys behind a key, octet by octet
+unfoldable pub records_after : Kind → List ℕ → List Record → List Record
+records_after kind key records =
+    filter (λ (r : Record). is_gt (octet_order r.key key)) (records_of kind records)
 
 -- the worklist entries that wait: no performed procedure step has started them (PS3.4 section
 -- K.6.1.2)
@@ -34,6 +40,10 @@ rows_of kind institution rows = filter (is_of_kind kind institution) rows
 unfoldable pub rows_above : Kind → List ℕ → List ℕ → List Row → List Row
 rows_above kind institution above rows =
     filter (λ (row : Row). bytes_eq row.above above) (rows_of kind institution rows)
+
+unfoldable pub rows_after : Kind → List ℕ → List ℕ → List Row → List Row
+rows_after kind institution key rows =
+    filter (λ (row : Row). is_gt (octet_order row.key key)) (rows_of kind institution rows)
 
 abbrev pub waiting_entries : List ℕ → List Row → List Row
 waiting_entries institution rows = filter (λ (row : Row). not row.started) (rows_of Entry institution rows)

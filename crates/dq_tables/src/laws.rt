@@ -9,7 +9,7 @@ ghost use Rattle.dq_tables.specs.declared.row.Kind.TheVariants.{Entry};
 ghost use Rattle.dq_tables.specs.declared.row.Row.{Row};
 ghost use Rattle.dq_tables.specs.declared.change.Change.{Change};
 ghost use Rattle.dq_tables.specs.Rows.{Edit, Put, Remove, Start, record_of, row_place_of, place, rows_elsewhere, after_edit, records_after_edits, edited_all, of, IsRising, Operation, by, after, after_all, own_edits, operation_of, row_of};
-ghost use Rattle.dq_tables.specs.Finding.{row_at, rows_of, rows_above, waiting_entries, record_at, records_of, records_above, waiting_among};
+ghost use Rattle.dq_tables.specs.Finding.{row_at, rows_of, rows_above, rows_after, waiting_entries, record_at, records_of, records_above, records_after, waiting_among};
 ghost use Rattle.dq_tables.specs.Choosing.{studies_in, studies_among};
 ghost use Rattle.dq_tables.specs.Labels.{date_number, day_named, day_of};
 ghost use Rattle.dq_tables.specs.Records.{AreInOrder};
@@ -62,7 +62,7 @@ pub fn sound_rows_stay_sound()
 {}
 
 /// What is found among the rows by an institution's name is what is found among its records.
-#[tactic(auto, using(crate::proofs::Seen::found_own, crate::proofs::Seen::listed_own, crate::proofs::Seen::above_own, crate::proofs::Seen::chosen_own, crate::proofs::Seen::waiting_own, crate::proofs::Seen::counted_own))]
+#[tactic(auto, using(crate::proofs::Seen::found_own, crate::proofs::Seen::listed_own, crate::proofs::Seen::above_own, crate::proofs::Seen::after_own, crate::proofs::Seen::chosen_own, crate::proofs::Seen::waiting_own, crate::proofs::Seen::counted_own))]
 pub fn rows_are_found_among_records()
     ensures found { (kind : Kind) (h key : List ℕ) (rows : List Row)
         → row_at kind h key rows ≡ option_map (row_of h) (record_at kind key (of h rows)) }
@@ -70,6 +70,8 @@ pub fn rows_are_found_among_records()
         → rows_of kind h rows ≡ map (row_of h) (records_of kind (of h rows)) }
     ensures above { (kind : Kind) (h above : List ℕ) (rows : List Row)
         → rows_above kind h above rows ≡ map (row_of h) (records_above kind above (of h rows)) }
+    ensures after { (kind : Kind) (h key : List ℕ) (rows : List Row)
+        → rows_after kind h key rows ≡ map (row_of h) (records_after kind key (of h rows)) }
     ensures chosen { (choice : Choice) (h : List ℕ) (rows : List Row)
         → studies_in choice h rows ≡ map (row_of h) (studies_among choice (of h rows)) }
     ensures waiting { (h : List ℕ) (rows : List Row)

@@ -51,6 +51,17 @@ impl Tables for PlainTables {
         Ok(scan::cut(rows, from, most))
     }
 
+    fn rows_after(
+        &mut self,
+        kind: Kind,
+        institution: &[u8],
+        key: &[u8],
+        most: usize,
+    ) -> Result<Listed<Row>, TableFault> {
+        let rows = scan::rows_after(self.alloc, self.kept(), kind, institution, key)?;
+        Ok(scan::cut(rows, 0, most))
+    }
+
     fn rows_above(
         &mut self,
         kind: Kind,

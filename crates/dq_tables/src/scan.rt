@@ -1,7 +1,7 @@
 //! Rows, scanned.
 ghost use Rattle.std.specs.Prelude.{◌≡◌, ◌&&◌, IfOk, length, take, drop, option_copied};
 ghost use Rattle.std.specs.Str.{bytes_eq};
-ghost use Rattle.dq_tables.specs.Finding.{is_of_kind, row_at, rows_of, rows_above, waiting_entries};
+ghost use Rattle.dq_tables.specs.Finding.{is_of_kind, row_at, rows_of, rows_above, rows_after, waiting_entries};
 ghost use Rattle.dq_tables.specs.Choosing.{studies_in};
 
 use crate::choice::Choice;
@@ -92,6 +92,27 @@ pub(crate) fn rows_above(
     let mut copies = Listed::empty(alloc);
     for row in rows {
         if is_of(row, kind, institution) && row.above.as_slice() == above {
+            copies.push(row.copied(alloc)?)?;
+        }
+    }
+    Ok(copies)
+}
+
+/// Copies of the institution's rows of a kind with keys behind a key.
+#[tactic(auto, unfolding(crate::specs::Finding::rows_of, crate::specs::Finding::rows_after))]
+pub(crate) fn rows_after(
+    alloc: Global,
+    rows: &[Row],
+    kind: Kind,
+    institution: &[u8],
+    key: &[u8],
+) -> Result<Listed<Row>, AllocError>
+    ensures { IfOk result (λ copies.
+        copies ≡ rows_after kind institution.now key.now rows.now) }
+{
+    let mut copies = Listed::empty(alloc);
+    for row in rows {
+        if is_of(row, kind, institution) && row.key.as_slice().cmp(key).is_gt() {
             copies.push(row.copied(alloc)?)?;
         }
     }

@@ -3,7 +3,7 @@ ghost use Rattle.std.specs.Prelude.{◌≡◌, List, length, take, drop, IfOk};
 ghost use Rattle.dq_tables.specs.declared.row.Kind.TheVariants.{Study, Series, Image, Entry, Step};
 ghost use Rattle.dq_tables.specs.declared.row.Row.{Row};
 ghost use Rattle.dq_tables.specs.Rows.{after, operation_of};
-ghost use Rattle.dq_tables.specs.Finding.{row_at, rows_of, rows_above, waiting_entries};
+ghost use Rattle.dq_tables.specs.Finding.{row_at, rows_of, rows_above, rows_after, waiting_entries};
 ghost use Rattle.dq_tables.specs.Choosing.{studies_in};
 ghost use Rattle.dq_tables.specs.Sound.{IsSound, ChangeFits};
 ghost use Rattle.dq_tables.specs.Keeping.{State, Reads, Writes};
@@ -49,6 +49,19 @@ pub trait Tables {
         ensures found { (state self.new).honest → IfOk result
             (λ list. list ≡ take most (drop from
             (rows_of kind institution.now (state self.old).rows))) }
+        ensures reads { Reads (state self.old) (state self.new) result };
+
+    /// The institution's rows of a kind with keys behind a key, at most so many.
+    fn rows_after(
+        &mut self,
+        kind: Kind,
+        institution: &[u8],
+        key: &[u8],
+        most: usize,
+    ) -> Result<Listed<Row>, TableFault>
+        ensures found { (state self.new).honest → IfOk result
+            (λ list. list ≡ take most
+            (rows_after kind institution.now key.now (state self.old).rows)) }
         ensures reads { Reads (state self.old) (state self.new) result };
 
     /// The institution's rows of a kind under the row with the key `above`.

@@ -194,12 +194,3 @@ module _ (number : ℕ) where
     pub end-played : (before after : Hold) (i given : ℕ) → at ≡ Some i → given ≡ i + 1
         → wire_with given after.held ≡ None → IsPlayed (map line_number lines) (End number) before after
     end-played before after i given some is gone = rw (found, some, ← is) gone
-
--- what is waited for of a connection that ends, and of a piece
-pub come-gone : (wire : Option HeldWire) → IsCome wanted.Gone wire → wire ≡ None
-come-gone None come = refl
-come-gone (Some wire) come = absurd come
-
-pub come-heard : (octets : List ℕ) (before after : HeldWire) (wire was : Option HeldWire) (count : ℕ) → was ≡ Some before → wire ≡ Some after
-    → count ≡ before.heard + length octets → IsCome (wanted.Heard count) wire → IsHeard octets was wire
-come-heard octets before after wire was count e f is come = rw (e, f) (rw (f, is) at come)

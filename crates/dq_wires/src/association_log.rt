@@ -25,8 +25,8 @@ use std::time::Clock;
 ///   (PS3.8 section 9.3.8), also where no association had been accepted;
 /// - `1 worklist query modality CT station CT1 day 20240705 keys 00100010,00400100 status 0000
 ///   answers 3 ms 2`, and the same with `study`: what a C-FIND asks for of the modality, the station
-///   and the day, the tags of all keys, the status of the final response unless the search is
-///   cancelled, how many answers were found, and how long the turn took in which they were;
+///   and the day, the tags of all keys, the status of the final response, how many answers were
+///   sent, and how long the turn took in which the last one was. It is told then;
 /// - `1 ended released 3.250 s stores 2 searches 1 answers 3 steps 0 refused 1`: an accepted
 ///   association ended, also as `aborted`, or `lost` with its connection;
 /// - `4 given up 192.0.2.7:40112 artim`, and the same with `quiet`: the peer's address, and why;

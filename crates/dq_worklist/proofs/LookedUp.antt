@@ -116,7 +116,7 @@ module _ (each_alone : EachAlone) (items_met : ItemsMet) (institution : List ℕ
       → answer_to_keys keys (data_set_of r.octets) ≡ None
   other_gives_none id asked r h other =
       let entry = of_kind_from Entry r (of institution rows) h in
-      let own = of_each HasOwnId row_own r institution rows sound entry.0 in
+      let own = of_each HasOwnId row_own r institution rows sound.own entry.0 in
       let held = entry_step r entry.1 own.1 in
       let key = step_asked keys id asked in
       none_by keys (data_set_of r.octets) (fits keys (data_set_of r.octets)) refl (λ fit.

@@ -10,6 +10,7 @@
     many        64 connections are served; a 65th waits, and is served when one of them closes
     shares      searches that come at once on many connections of one hospital: another's echo waits
                 for few, and each is answered
+    unread      sixty searches whose clients read nothing hold little memory
     deaf        a client that reads nothing takes neither time nor memory from others, and is then
                 answered whole
     resets      connections that are reset in every state leave nothing behind
@@ -55,17 +56,18 @@ from .common import WANTED
 from .console import browser, callers, console, file, searches
 from .exits import exits, listen
 from .limits import artim, peers, quiet
-from .loads import deaf, half, idle, long, many, pages, resets, shares
+from .loads import deaf, half, idle, long, many, pages, resets, shares, unread
 from .log import log
 from .stops import repeats, stops
 from .tools import tools
 
 PARTS: dict[str, Part] = {
     "captures": captures, "histories": two_hospitals, "pages": pages, "many": many,
-    "shares": shares, "deaf": deaf, "resets": resets, "half": half, "long": long, "stops": stops,
-    "repeats": repeats, "idle": idle, "exits": exits, "listen": listen, "loopback": loopback,
-    "console": console, "backup": backup, "searches": searches, "file": file, "callers": callers,
-    "browser": browser, "artim": artim, "peers": peers, "quiet": quiet, "log": log, "tools": tools,
+    "shares": shares, "unread": unread, "deaf": deaf, "resets": resets, "half": half, "long": long,
+    "stops": stops, "repeats": repeats, "idle": idle, "exits": exits, "listen": listen,
+    "loopback": loopback, "console": console, "backup": backup, "searches": searches, "file": file,
+    "callers": callers, "browser": browser, "artim": artim, "peers": peers, "quiet": quiet,
+    "log": log, "tools": tools,
 }
 
 

@@ -16,8 +16,8 @@ from ..model.upper_layer import ACCEPT, RELEASE_RP
 from ..paths import TOP, configured
 from ..scenes import ECHO, RELEASE, SERVED, message, octets_of
 from ..tally import Tally
-from .common import (MOST, PAGED, PROGRAM, WANTED, associated, is_alive, long_names, sent_unread,
-                     serves, spent, store_of)
+from .common import (LONG_NAME, MOST, PAGED, PROGRAM, WANTED, associated, is_alive, long_names,
+                     sent_unread, serves, spent, store_of)
 
 
 def many(tally: Tally, _: object) -> None:
@@ -60,6 +60,16 @@ associations = 64
 """ for name, calling in (("NORTH", "CT1"), ("SOUTH", "CT2")))
 
 
+def are_stored(tally: Tally, client: Client, part: str, studies: int) -> bool:
+    """Stores so many studies whose patients have long names; whether each was taken."""
+    for at in range(studies):
+        client.send(store_of(f"1.2.{at}.1.1", f"1.2.{at}",
+                             PatientName=f"DOE^{at}" + "X" * 2000))
+        if client.status() != 0:
+            return tally.check(f"{part}: store {at}", False)
+    return True
+
+
 def shares(tally: Tally, folder: pathlib.Path, count: int = 40, studies: int = 600) -> None:
     (folder / "two.toml").write_text(TWO_OF_MANY)
     with Serving(PROGRAM, "--config", folder / "two.toml") as server:
@@ -67,12 +77,8 @@ def shares(tally: Tally, folder: pathlib.Path, count: int = 40, studies: int = 6
         other = associated(server, "CT1")
         if not tally.check("shares: associations", None not in (*many, other)):
             return
-        for at in range(studies):
-            many[0].send(store_of(f"1.2.{at}.1.1", f"1.2.{at}",
-                                  PatientName=f"DOE^{at}" + "X" * 2000))
-            if many[0].status() != 0:
-                tally.check(f"shares: store {at}", False)
-                return
+        if not are_stored(tally, many[0], "shares", studies):
+            return
         # all that is sent while it is stopped is there when it goes on
         server.child.send_signal(signal.SIGSTOP)
         for one in many:
@@ -86,15 +92,31 @@ def shares(tally: Tally, folder: pathlib.Path, count: int = 40, studies: int = 6
                     all(one.statuses() == [0xFF00] * studies + [0] for one in many))
 
 
+def unread(tally: Tally, folder: pathlib.Path, count: int = 60, studies: int = 4000) -> None:
+    (folder / "two.toml").write_text(TWO_OF_MANY)
+    with Serving(PROGRAM, "--config", folder / "two.toml") as server:
+        many = [associated(server, "CT2") for _ in range(count)]
+        other = associated(server, "CT1")
+        if not tally.check("unread: associations", None not in (*many, other)):
+            return
+        if not are_stored(tally, many[0], "unread", studies):
+            return
+        before = server.memory()
+        for one in many:
+            one.send(find_all(1))
+        tally.check("unread: each is answered", until(lambda: len(
+            select.select([one.socket for one in many], [], [], 0)[0]) == count))
+        tally.check("an echo beside them", is_alive(other))
+        tally.check("unread: within memory", server.memory() - before < 24,
+                    f"{server.memory() - before:.0f} MB more")
+        tally.check("one of them is read", many[-1].statuses() == [0xFF00] * studies + [0])
+
+
 def deaf(tally: Tally, _: object) -> None:
     with Serving(PROGRAM, *configured("large")) as server:
         client = associated(server)
-        for at in range(20):
-            client.send(store_of(f"1.2.{at}.1.1", f"1.2.{at}",
-                                 PatientName=f"DOE^{at}" + "X" * 2000))
-            if client.status() != 0:
-                tally.check(f"store {at}", False)
-                return
+        if not are_stored(tally, client, "deaf", 20):
+            return
         find = message("find 1 5 1 study QueryRetrieveLevel=STUDY PatientName= StudyInstanceUID=")
         client.send(find)
         tally.check("a search finds all", client.statuses() == [0xFF00] * 20 + [0])
@@ -168,11 +190,25 @@ def pages(tally: Tally, _: object) -> None:
         tally.check("pages: soon", slowest < 1, f"{slowest:.2f} s")
         other.send(store_of("1.3.1.1.1", "1.3.1", PatientName="ROE^LATE"))
         tally.check("a store beside it", other.status() == 0)
-        tally.check("pages: within memory", server.memory() - before < 64,
+        tally.check("pages: within memory", server.memory() - before < 8,
                     f"{server.memory() - before:.0f} MB more")
         tally.check("it is answered as it was asked", client.statuses() == [*every, 0])
         client.send(find_all(6))
         tally.check("one that is asked later finds more", client.statuses() == [*every, 0xFF00, 0])
+        # nor does an image that is stored between two of its pages raise a count
+        counted = message("find 1 5 9 study QueryRetrieveLevel=STUDY PatientName= "
+                          "StudyInstanceUID= NumberOfStudyRelatedInstances=")
+        whole = answers(client, counted)
+        client.send(counted)
+        read = client.receive(len(whole) // 8)
+        for at in (1, 99):
+            other.send(store_of(f"1.2.{at}.1.2", f"1.2.{at}",
+                                PatientName=f"DOE^{at}" + "X" * LONG_NAME))
+            tally.check("a store between two pages", other.status() == 0)
+        tally.check("counts are those of the moment at which it was asked",
+                    read + client.receive(len(whole) - len(read)) == whole)
+        tally.check("those of a later search are others",
+                    answers(client, counted) != whole)
         client.send(find_all(7))
         first = client.status()
         client.send(RELEASE)

@@ -3,7 +3,7 @@ ghost use Rattle.std.specs.Prelude.{◌≡◌, ◌||◌, false, true, length, ta
 ghost use Rattle.dq_tables.specs.declared.fault.TableFault.TheVariants.{Store};
 ghost use Rattle.dq_tables.specs.declared.row.Row.{Row};
 ghost use Rattle.dq_tables.specs.Rows.{after, operation_of};
-ghost use Rattle.dq_tables.specs.Finding.{row_at, rows_of, rows_above, waiting_entries};
+ghost use Rattle.dq_tables.specs.Finding.{row_at, rows_of, rows_above, rows_after, waiting_entries};
 ghost use Rattle.dq_tables.specs.Choosing.{studies_in};
 ghost use Rattle.dq_tables.specs.Sound.{ChangeFits};
 ghost use Rattle.dq_tables.specs.Keeping.{Reads, Writes};
@@ -122,6 +122,25 @@ impl<T: Tables> Tables for Fused<T> {
     {
         self.check()?;
         self.tables.rows_from(kind, institution, from, most)
+    }
+
+    fn rows_after(
+        &mut self,
+        kind: Kind,
+        institution: &[u8],
+        key: &[u8],
+        most: usize,
+    ) -> Result<Listed<Row>, TableFault>
+        ensures found { (⟦<Fused<T> as Tables>⟧.state self.new).honest → IfOk result
+            (λ found. found ≡ take most (rows_after kind institution.now key.now
+            (⟦<Fused<T> as Tables>⟧.state self.old).rows)) }
+        ensures reads { Reads (⟦<Fused<T> as Tables>⟧.state self.old)
+            (⟦<Fused<T> as Tables>⟧.state self.new) result }
+        ensures fuse { self.new.fuse ≡ self.old.fuse }
+        ensures blown { self.old.fuse.blown ≡ true → result ≡ Err Store }
+    {
+        self.check()?;
+        self.tables.rows_after(kind, institution, key, most)
     }
 
     fn rows_above(

@@ -1,4 +1,6 @@
-use Rattle.std.proofs.Common.{◌≡◌, length, ap, ◌∙◌, subst, inl}
+use Rattle.std.proofs.Common.{◌≡◌, List, [], length, sym, ap, ◌∙◌, subst, inl}
+use Rattle.dq_config.specs.declared.config.Institution.{Institution}
+use Rattle.dq_core.specs.Slots.{AreHeld}
 use Rattle.dq_core.specs.Runs.{IsRun}
 use Rattle.dq_core.proofs.Running.{without-fault, without-err, with-fault}
 use Rattle.dq_core.proofs.server.answer_history.Given.{Over}
@@ -12,6 +14,10 @@ ran : (g : Over) (c : goal.After-into_tables g) → (g.T.Tables.state c.into_tab
     → IsRun c.args.config (g.T.Tables.state c.args.tables).rows c.args.events.items c.from_inner.result (g.T.Tables.state c.into_tables.result).rows
 ran g c h = rw (c.into_tables.ensures, c.from_inner.ensures, ← config g c)
     (c.answer_all.ensures.ran (g.T.Tables.state c.args.tables).rows c.over-server.ensures.stands (rw c.into_tables.ensures at h))
+
+pub over-server-requires-clause-none : goal.over-server-requires-clause-none
+over-server-requires-clause-none g c = λ rows.
+    subst (λ (institutions : List Institution). AreHeld institutions rows c.in-Ok.connections []) (sym c.in-Ok.ensures.config) (c.in-Ok.ensures.none rows)
 
 pub returns-clause-ran : goal.returns-clause-ran
 returns-clause-ran g c = ran g c

@@ -1,6 +1,6 @@
 use Rattle.std.proofs.Common.{◌<◌, ◌+◌, length, arith}
 use Rattle.dq_find.proofs.Counting.{counted_more}
-use Rattle.dq_archive.proofs.Looking.{looks_on}
+use Rattle.dq_archive.proofs.LookingBack.{looks_on}
 use Rattle.dq_find.proofs.computed.images_below.Goals as goal
 
 pub loop-row-preserved : goal.loop-row-preserved

@@ -1,7 +1,7 @@
 use Rattle.std.proofs.Common.{◌≡◌, ◌+◌, ◌-◌, ◌*◌, ◌^◌, ◌≤◌, drop, map}
 use Rattle.dq_tables.specs.Rows.{record_of}
 use Rattle.dq_find.specs.Computed.{images_below}
-use Rattle.dq_archive.proofs.Looking.{LooksSoFar}
+use Rattle.dq_archive.proofs.LookingBack.{LooksSoFar}
 use Rattle.dq_find.proofs.computed.images_below.Given as goal
 
 abbrev pub invariant-loop-row : goal.invariant-loop-row

@@ -1,5 +1,5 @@
 use Rattle.std.proofs.Common.{◌∙◌, ap}
-use Rattle.dq_archive.proofs.Looking.{looks_as}
+use Rattle.dq_archive.proofs.LookingBack.{looks_as}
 use Rattle.dq_find.specs.Computed.{series_values, computed_keys}
 use Rattle.dq_find.proofs.computed.series_computed.Goals as goal
 

@@ -1,8 +1,8 @@
 use Rattle.std.proofs.Common.{◌∙◌, List, map, Ok, ap}
 use Rattle.dq_tables.specs.declared.row.Row.{Row}
 use Rattle.dq_tables.specs.Rows.{record_of}
-use Rattle.dq_archive.specs.Archives.{records_in}
-use Rattle.dq_archive.proofs.Looking.{looks_then, looks_as}
+use Rattle.dq_archive.specs.Pasts.{records_in}
+use Rattle.dq_archive.proofs.LookingBack.{looks_then, looks_as}
 use Rattle.dq_find.specs.Computed.{images_below, modalities_in, backslash_joined}
 use Rattle.dq_find.proofs.Counting.{computed_of_rows}
 use Rattle.dq_find.proofs.computed.study_computed.Goals as goal

@@ -2,8 +2,7 @@ use Rattle.std.proofs.Common.{[], refl, rules, arith}
 use Rattle.sqlite.specs.State.{HasCleanDisk, IsUnchanged}
 use Rattle.sqlite.specs.Held.{state}
 use Rattle.sqlite.specs.Given.{HasGiven}
-use Rattle.dq_sql.proofs.Staying.{stays_then}
-use Rattle.dq_sql.proofs.InTurn.{shown_from, begun_silent, begun_stays, refused_stays, moved_stays}
+use Rattle.dq_sql.proofs.InTurn.{shown_from, begun_silent, begun_stays, refused_stays}
 use Rattle.dq_sql.proofs.reading.in_turn.Goals as goal
 
 pub returns-in_err-rows-clause-stays : goal.returns-in_err-rows-clause-stays

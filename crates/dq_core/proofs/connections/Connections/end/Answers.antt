@@ -13,5 +13,5 @@ returns-clause-turned c = λ world h.
     let counted = ap (λ tally. tally.counts.items) c.remove.ensures.tally ∙ c.end_home.ensures
     ∙ ap (without_home now.config now.tally.counts.items) c.get.ensures in
     ends-found now.config world c.args.number c.an_association_after_pdus.ensures.waits now c.remove.new.self c.in-Some.place h
-    (sym c.place_of.ensures ∙ c.in-Some.is) c.remove.ensures.slots c.remove.ensures.places c.remove.ensures.ordered c.remove.ensures.newest
+    (sym c.place_of.ensures ∙ c.in-Some.is) c.remove.ensures.slots c.remove.ensures.places c.remove.ensures.ordered c.remove.ensures.newest c.remove.ensures.additions
     (λ slot there none. counted ∙ rw (there, none) refl) (λ slot name there some. counted ∙ rw (there, some) refl)

@@ -4,18 +4,18 @@ use Rattle.dq_core.proofs.Turning.{vacant, pending-none, pending-some, search-no
 use Rattle.dq_core.proofs.connections.Connections.is_pending.Goals as goal
 
 pub returns-in_default-clause-stands : goal.returns-in_default-clause-stands
-returns-in_default-clause-stands c = λ connections h.
-    pending-none c.args.self.now.config c.args.number c.args.self.now connections h (sym c.place_of.ensures ∙ c.in_default.is)
+returns-in_default-clause-stands c = λ rows connections h.
+    pending-none c.args.self.now.config rows c.args.number c.args.self.now connections h (sym c.place_of.ensures ∙ c.in_default.is)
 
 pub returns-in-Some-get-clause-stands : goal.returns-in-Some-get-clause-stands
-returns-in-Some-get-clause-stands c = λ connections h.
+returns-in-Some-get-clause-stands c = λ rows connections h.
     c.is_some.ensures
-    ∙ pending-some c.args.self.now.config c.args.number c.in-Some.place c.args.self.now c.in-Some-get.slot.now connections h
+    ∙ pending-some c.args.self.now.config rows c.args.number c.in-Some.place c.args.self.now c.in-Some-get.slot.now connections h
     (sym c.place_of.ensures ∙ c.in-Some.is) (sym c.get.ensures ∙ ap option_copied c.in-Some-get.is)
 
 pub returns-in-None-clause-stands : goal.returns-in-None-clause-stands
-returns-in-None-clause-stands c = λ connections h.
-    absurd (vacant c.args.self.now.config c.args.number c.in-Some.place c.args.self.now connections h
+returns-in-None-clause-stands c = λ rows connections h.
+    absurd (vacant c.args.self.now.config rows c.args.number c.in-Some.place c.args.self.now connections h
     (sym c.place_of.ensures ∙ c.in-Some.is) (sym c.get.ensures ∙ ap option_copied c.in-None.is))
 
 pub returns-in_default-clause-told : goal.returns-in_default-clause-told

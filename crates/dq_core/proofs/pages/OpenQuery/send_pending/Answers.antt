@@ -1,7 +1,7 @@
 use Rattle.std.proofs.Common.{List, ℕ, ◌++◌, refl, ap, ◌∙◌, arith}
-use Rattle.dq_match.specs.declared.responses.Found.{Found}
+use Rattle.dq_core.specs.declared.pages.OpenQuery.{OpenQuery}
 use Rattle.dq_core.specs.Queries.{open_query_of}
-use Rattle.dq_core.proofs.Sending.{none-sent, one-sent, so-many, all-sent}
+use Rattle.dq_core.proofs.Sending.{none-sent, one-sent, so-many, not-none}
 use Rattle.dq_core.proofs.pages.OpenQuery.send_pending.Goals as goal
 
 pub loop-preserved : goal.loop-preserved
@@ -31,11 +31,19 @@ loop-init c = (
   ) at c.in_ok-put_command.ensures,
 )
 
+pub returns-in_default-clause-sent : goal.returns-in_default-clause-sent
+returns-in_default-clause-sent c = λ records.
+    absurd (not-none c.loop.invariant.0 c.args.count (omega (arith, c.loop-test.true)) c.requires (rw c.in_default.is at c.in_ok-next.ensures).0)
+
 pub returns-in_default-clause-left : goal.returns-in_default-clause-left
-returns-in_default-clause-left c =
-    let none = rw c.in_default.is at c.in_ok-next.ensures in
-    ap (λ (pages : Found). open_query_of (record c.loop.self { pages = pages })) none.1
-    ∙ (all-sent c.loop.invariant.0 c.args.count none.0 (omega (arith, c.loop-test.true))).1
+returns-in_default-clause-left c = λ records.
+    absurd (not-none c.loop.invariant.0 c.args.count (omega (arith, c.loop-test.true)) c.requires (rw c.in_default.is at c.in_ok-next.ensures).0)
+
+pub returns-clause-sent : goal.returns-clause-sent
+returns-clause-sent c = λ records. (so-many c.loop.invariant.0 records c.args.count (omega (arith, c.loop.auto.counter-end, c.loop-test.false))).0
 
 pub returns-clause-left : goal.returns-clause-left
-returns-clause-left c = (so-many c.loop.invariant.0 c.args.count (omega (arith, c.loop.auto.counter-end, c.loop-test.false))).1
+returns-clause-left c = λ records. ap (open_query_of records) c.count.ensures ∙ (so-many c.loop.invariant.0 records c.args.count (omega (arith, c.loop.auto.counter-end, c.loop-test.false))).1
+
+pub returns-clause-since : goal.returns-clause-since
+returns-clause-since c = ap (λ (q : OpenQuery). q.since) c.count.ensures ∙ c.loop.invariant.0.since

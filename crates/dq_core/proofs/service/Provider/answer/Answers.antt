@@ -11,6 +11,6 @@ pub returns-in_err-extend_from_slice-clause-stops : goal.returns-in_err-extend_f
 returns-in_err-extend_from_slice-clause-stops g c = λ h t is.
     let stand = subst (λ (helds : List Message). StandForAll (accepted_by c.args.self.agreement.now) helds t.step.messages)
     (sym c.into_inner-messages.ensures) is.step.messages in
-    let did = c.in_ok-query.ensures.does h t.step.messages stand in
+    let did = c.in_ok-answered.ensures.does h t.step.messages stand in
     on-err c.from_residual-in_err-extend_from_slice.result
-    (part-whole did.rows (λ r left. (c.in_ok-query.ensures.goes.settles h left.0).only r left.1))
+    (part-whole did.rows (λ r left. (c.in_ok-answered.ensures.goes.settles h left.0).only r left.1))

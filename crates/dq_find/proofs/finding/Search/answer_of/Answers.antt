@@ -4,8 +4,8 @@ use Rattle.dq_dataset.specs.View.{elements_of}
 use Rattle.dq_match.specs.AsLent.{is_met_at_once}
 use Rattle.dq_match.specs.declared.keys.Place.TheVariants.{Outer}
 use Rattle.dq_tables.specs.Records.{data_set_of}
-use Rattle.dq_archive.specs.Archives.{records_in}
-use Rattle.dq_archive.proofs.Looking.{looks_nothing}
+use Rattle.dq_archive.specs.Pasts.{records_in}
+use Rattle.dq_archive.proofs.LookingBack.{looks_nothing}
 use Rattle.dq_find.specs.Queries.{answer_if}
 use Rattle.dq_find.proofs.Answering.{met_later, answered_alike, not_met}
 use Rattle.dq_find.proofs.finding.Search.answer_of.Goals as goal

@@ -4,7 +4,7 @@ use Rattle.dq_match.specs.Parts.{part_of, with_others}
 use Rattle.dq_tables.specs.declared.row.Row.{Row}
 use Rattle.dq_tables.specs.Rows.{record_of}
 use Rattle.dq_find.specs.Queries.{record_answer}
-use Rattle.dq_archive.proofs.Looking.{LooksSoFar}
+use Rattle.dq_archive.proofs.LookingBack.{LooksSoFar}
 use Rattle.dq_find.proofs.finding.Search.answers_of.Given as goal
 
 abbrev pub invariant-loop-row : goal.invariant-loop-row

@@ -1,5 +1,5 @@
-use Rattle.dq_archive.specs.Archives.{records_in}
-use Rattle.dq_archive.proofs.Looking.{looks_alike}
+use Rattle.dq_archive.specs.Pasts.{records_in}
+use Rattle.dq_archive.proofs.LookingBack.{looks_alike}
 use Rattle.dq_find.proofs.Asking.{asked_studies, asked_series, asked_images}
 use Rattle.dq_find.proofs.finding.Search.asked_rows.Goals as goal
 

@@ -1,6 +1,6 @@
 use Rattle.std.proofs.Common.{◌∙◌, sym, ap}
-use Rattle.dq_archive.specs.Archives.{records_in}
-use Rattle.dq_archive.proofs.Looking.{looks_nothing}
+use Rattle.dq_archive.specs.Pasts.{records_in}
+use Rattle.dq_archive.proofs.LookingBack.{looks_nothing}
 use Rattle.dq_find.specs.declared.level.Level.{Level}
 use Rattle.dq_find.specs.Computed.{computed_keys}
 use Rattle.dq_find.proofs.finding.Search.computed.Goals as goal

@@ -2,12 +2,12 @@ use Rattle.std.proofs.Common.{◌≡◌, ◌∙◌, sym, ap}
 use Rattle.std.proofs.lemmas.Result.{IfOk-weaker}
 use Rattle.dq_match.specs.declared.keys.Place.TheVariants.{Outer}
 use Rattle.dq_match.specs.Parts.{part_of}
-use Rattle.dq_archive.specs.Archives.{state_in, records_in}
-use Rattle.dq_archive.proofs.Looking.{looks_then}
+use Rattle.dq_archive.specs.Pasts.{state_in, records_in}
+use Rattle.dq_archive.proofs.LookingBack.{looks_then}
 use Rattle.dq_find.specs.Queries.{answers_of_records}
 use Rattle.dq_find.proofs.Answering.{row_answers}
 use Rattle.dq_find.proofs.InParts.{part_told}
-use Rattle.dq_find.proofs.LookedUp.{answered_of_candidates}
+use Rattle.dq_find.proofs.Then.{answered_then}
 use Rattle.dq_find.proofs.finding.Search.part.Goals as goal
 use Rattle.dq_find.proofs.finding.Search.part.Goals.{in_default-via-in-Some+else-takes_all_studies, in_default-via-in_default}
 
@@ -51,7 +51,7 @@ returns-in_ok-rows-in_default g c =
       answered = λ h.
           (let was = answers.ensures.reads.goes.was_honest h in
           let all = ap (row_answers (records_in state old) called query) (c.as_slice-in_default.ensures ∙ rows.answered was)
-          ∙ answered_of_candidates old.institution.now.name (state_in state old).rows called query
+          ∙ answered_then old.later.now old.institution.now.name (state_in state old).rows called query
           (c.honest_rows_are_sound.ensures.sound old.tables.now (rows.reads.goes.was_honest was)) c.has_facts.ensures
           (λ held fit. ((c.keys_are_met_alone_and_as_a_period.ensures.each Outer query.keys held).0 fit).0)
           (record { named = c.day_numbers_are_in_order.ensures.named; ordered = c.day_numbers_are_in_order.ensures.ordered }) in

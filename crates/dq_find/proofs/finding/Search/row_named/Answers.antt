@@ -1,5 +1,5 @@
-use Rattle.dq_archive.specs.Archives.{records_in}
-use Rattle.dq_archive.proofs.Looking.{looks_as}
+use Rattle.dq_archive.specs.Pasts.{records_in}
+use Rattle.dq_archive.proofs.LookingBack.{looks_as}
 use Rattle.dq_find.proofs.LookedUp.{looked_up_is}
 use Rattle.dq_find.proofs.finding.Search.row_named.Goals as goal
 

@@ -1,7 +1,7 @@
 use Rattle.std.proofs.Common.{◌≡◌, ◌++◌, length}
 use Rattle.dq_list.specs.Octets.{octets_of_vectors}
 use Rattle.dq_find.specs.Candidates.{named_rows}
-use Rattle.dq_archive.proofs.Looking.{LooksSoFar}
+use Rattle.dq_archive.proofs.LookingBack.{LooksSoFar}
 use Rattle.dq_find.proofs.finding.Search.rows_named.Given as goal
 
 abbrev pub invariant-loop-uid : goal.invariant-loop-uid

@@ -5,7 +5,7 @@ use Rattle.dq_sql.specs.Copying.{IsCopyOf}
 use Rattle.dq_sql.specs.Filling.{IsFilled}
 use Rattle.dq_sql.specs.Keeping.{MayLeave}
 use Rattle.dq_sql.proofs.Keeping.{filled_keeps, filled_settled}
-use Rattle.dq_sql.proofs.CopiedStore.{not_filled, plainly_refused}
+use Rattle.dq_sql.proofs.CopiedStore.{not_filled}
 use Rattle.dq_sql.proofs.sql_tables.SqlTables.copy_lent.Goals as goal
 
 pub over-tables-requires-clause-keeps : goal.over-tables-requires-clause-keeps

@@ -15,7 +15,7 @@ invariant_of-self g c =
     record {
       alone = stays.mode it.alone;
       keeps = stays_kept old new it.history.rows it.alone stays it.keeps;
-      counted = still_counted old new it.history.rows it.known stays.survives it.counted;
+      counted = still_counted old new it.history.rows it.counts stays.survives it.counted;
     }
 
 pub returns-in-Ok-fill_store-clause-made : goal.returns-in-Ok-fill_store-clause-made

@@ -17,7 +17,7 @@ invariant_of-self g c =
           let before : HasCleanDisk old = omega (arith, c.commit.ensures.survives.clean) in
           made_kept old new it.history.rows c.args.change.now before (λ trees opened left. g.met.S.Store.settled c.commit.new.conn.store trees opened left)
           (c.requires before) (c.in-Ok.ensures.done clean) (k before)));
-      counted = rw c.then-self.ensures (followed_counted old new it.history.rows c.args.change.now it.known c.follow.new.self c.commit.ensures.survives it.keeps
+      counted = rw c.then-self.ensures (followed_counted old new it.history.rows c.args.change.now it.counts c.follow.new.self c.commit.ensures.survives it.keeps
           c.requires it.counted (c.follow.ensures it.history.rows));
     }
 
@@ -32,7 +32,7 @@ invariant_of-self-in-Err g c =
           let before : HasCleanDisk old = omega (arith, c.commit.ensures.survives.clean) in
           undone_kept old new it.history.rows c.args.change.now clean (c.requires before) (λ opened. c.in-Err.ensures.stays clean opened)
           c.commit.ensures.survives (k before));
-      counted = still_counted old new it.history.rows it.known c.commit.ensures.survives it.counted;
+      counted = still_counted old new it.history.rows it.counts c.commit.ensures.survives it.counted;
     }
 
 pub returns-in-Ok : goal.returns-in-Ok

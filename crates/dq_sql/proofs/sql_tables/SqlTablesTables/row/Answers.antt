@@ -12,7 +12,7 @@ invariant_of-self g c =
     record {
       alone = stays.mode it.alone;
       keeps = stays_kept (state g.S.Store it.conn) (state g.S.Store c.row-answer.new.conn) it.history.rows it.alone stays it.keeps;
-      counted = still_counted (state g.S.Store it.conn) (state g.S.Store c.row-answer.new.conn) it.history.rows it.known stays.survives it.counted;
+      counted = still_counted (state g.S.Store it.conn) (state g.S.Store c.row-answer.new.conn) it.history.rows it.counts stays.survives it.counted;
     }
 
 pub returns-clause-found : goal.returns-clause-found

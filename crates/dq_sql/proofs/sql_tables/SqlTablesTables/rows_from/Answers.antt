@@ -1,24 +1,18 @@
 use Rattle.std.proofs.Common.{take, drop, arith}
-use Rattle.std.proofs.Math.Logic.{∥∥₁_elim}
 use Rattle.sqlite.specs.State.{HasCleanDisk}
 use Rattle.sqlite.specs.Held.{state}
 use Rattle.dq_tables.specs.Finding.{rows_of}
 use Rattle.dq_sql.proofs.Keeping.{rows_set, if_ok, found_in, stays_kept, still_counted}
 use Rattle.dq_sql.proofs.sql_tables.SqlTablesTables.rows_from.Goals as goal
 
-pub returns-in-Some-clause-found : goal.returns-in-Some-clause-found
-returns-in-Some-clause-found g c clean =
-    let it = c.args.self.now in
-    ∥∥₁_elim it.counted (rows_set _ _) (λ right. rw c.in-Some.is at (c.in_ok-rows.ensures it.history.rows (right clean)))
-
-pub invariant_of-self-2 : goal.invariant_of-self-2
-invariant_of-self-2 g c =
+pub invariant_of-self : goal.invariant_of-self
+invariant_of-self g c =
     let it = c.args.self.now in
     let stays = c.rows_from-answer.ensures.stays in
     record {
       alone = stays.mode it.alone;
       keeps = stays_kept (state g.S.Store it.conn) (state g.S.Store c.rows_from-answer.new.conn) it.history.rows it.alone stays it.keeps;
-      counted = still_counted (state g.S.Store it.conn) (state g.S.Store c.rows_from-answer.new.conn) it.history.rows it.known stays.survives it.counted;
+      counted = still_counted (state g.S.Store it.conn) (state g.S.Store c.rows_from-answer.new.conn) it.history.rows it.counts stays.survives it.counted;
     }
 
 pub returns-clause-found : goal.returns-clause-found

@@ -1,0 +1,48 @@
+use Rattle.std.proofs.Common.{refl, sym, ap, ◌∙◌, not, map, take}
+use Rattle.std.specs.List.{filter}
+use Rattle.std.proofs.lemmas.List.{take-map}
+use Rattle.dq_tables.specs.declared.row.Row.{Row}
+use Rattle.dq_tables.specs.Rows.{of, row_of, record_of}
+use Rattle.dq_tables.specs.Finding.{rows_after, records_after}
+use Rattle.dq_tables.proofs.Listing.{listed_in_order}
+use Rattle.dq_tables.proofs.Seen.{page_own}
+use Rattle.dq_archive.specs.Later.{is_later, without}
+use Rattle.dq_archive.specs.Pasts.{state_in}
+use Rattle.dq_archive.proofs.Leaving.{left_rows, left_after, first_left, after_in_order, nothing_left_out}
+use Rattle.dq_archive.proofs.LookingBack.{looks_now, looks_back}
+use Rattle.dq_archive.proofs.past.Past.rows_after.Goals as goal
+
+pub returns-then-is_empty : goal.returns-then-is_empty
+returns-then-is_empty g c =
+    let it = c.args.self.now in
+    let name = it.institution.now.name in
+    let rows = (state_in g.T.Tables.state it).rows in
+    let key = c.args.key.now in
+    looks_now g.T.Tables.state it _ (λ n rs. take c.args.most (rows_after c.args.kind n key rs)) c.as_slice-name.result.now (record { tables = refl; institution = refl; later = refl })
+    c.as_slice-name.ensures _ c.rows_after.result
+    (λ h. page_own c.args.kind name key c.args.most rows
+    ∙ ap (λ rs. map (row_of name) (take c.args.most (records_after c.args.kind key rs)))
+    (nothing_left_out it.later.now (of name rows) (sym c.is_empty.ensures ∙ c.if-is_empty.true)))
+    c.rows_after.ensures.reads c.rows_after.ensures.found
+
+pub returns : goal.returns
+returns g c =
+    let it = c.args.self.now in
+    let later = it.later.now in
+    let name = it.institution.now.name in
+    let rows = (state_in g.T.Tables.state it).rows in
+    let key = c.args.key.now in
+    let most = c.args.most in
+    let all = c.in-Some.all in
+    let behind = records_after c.args.kind key (of name rows) in
+    looks_back g.T.Tables.state it _ (λ n rs. take all (rows_after c.args.kind n key rs)) c.as_slice-name.result.now (record { tables = refl; institution = refl; later = refl })
+    c.as_slice-name.ensures c.in_ok-rows.rows _ c.cut.result
+    (λ h e.
+    (let ordered = after_in_order c.args.kind (of name rows) key (listed_in_order c.args.kind name rows (c.honest_rows_are_sound.ensures.rising it.tables.now h)) in
+    c.cut.ensures ∙ ap (take most) (c.in_ok-rows-2.ensures
+    ∙ ap (filter (λ (row : Row). not (is_later later (record_of row)))) (e ∙ page_own c.args.kind name key all rows)
+    ∙ left_rows later name (take all behind))
+    ∙ take-map (row_of name) most (without later (take all behind))
+    ∙ ap (map (row_of name)) (sym (first_left later most all behind c.in-Some.ensures.1 ordered)
+    ∙ ap (take most) (left_after later c.args.kind key (of name rows)))))
+    c.in_ok-rows.ensures.reads c.in_ok-rows.ensures.found

@@ -1,0 +1,97 @@
+//! The answers to a query that were not sent.
+ghost use Rattle.std.specs.Prelude.{◌≡◌, ◌∷◌, [], length, IfOk, OnOk, MatchOption};
+ghost use Rattle.dq_dataset.specs.Canonical.{canonical};
+ghost use Rattle.dq_dataset.specs.Tree.{ElementList};
+ghost use Rattle.dq_core.specs.Queries.{at_hand, status_of, optional_of, Brings, Gives};
+
+use crate::answer_queue::{AnswerQueue, answer_octets};
+use dq_archive::Past;
+use dq_dataset::Syntax;
+use dq_dimse::status::SUCCESS;
+use dq_find::LazyAnswers;
+use dq_tables::{TableFault, Tables};
+use std::alloc::{AllocError, Global};
+
+/// The answers to a query that are left: those that were found as it began, or those that are found
+/// as they are asked for.
+#[derive(Drop)]
+pub(crate) enum Answers {
+    Found(AnswerQueue),
+    Sought(LazyAnswers),
+}
+
+impl Answers {
+    /// Finds answers until so many are at hand, or all.
+    pub(crate) fn find<T: Tables>(
+        &mut self,
+        archive: &mut Past<'_, T>,
+        number: usize,
+    ) -> Result<(), TableFault>
+        ensures { Brings T.state archive.old archive.new number self.old self.new result }
+    {
+        match self {
+            Answers::Found(_) => Ok(()),
+            Answers::Sought(lazy) => lazy.find(archive, number),
+        }
+    }
+
+    /// How many answers are at hand.
+    pub(crate) fn at_hand(&self) -> usize
+        ensures { result ≡ length (at_hand self.now) }
+    {
+        match self {
+            Answers::Found(queue) => queue.left(),
+            Answers::Sought(lazy) => lazy.found(),
+        }
+    }
+
+    /// The octets of the first of the answers that are at hand; after it the others are left.
+    pub(crate) fn next_octets(
+        &mut self,
+        alloc: Global,
+        syntax: Syntax,
+    ) -> Result<Option<Vec<u8>>, AllocError>
+        ensures { IfOk result (λ octets. MatchOption octets
+            ((at_hand self.old ≡ []) × (self.new ≡ self.old))
+            (λ octets. (answer : ElementList) × Gives self.old answer self.new
+            × (octets.items ≡ canonical syntax answer))) }
+    {
+        match self {
+            Answers::Found(queue) => queue.next_octets(alloc, syntax),
+            Answers::Sought(lazy) => match lazy.next() {
+                Some(answer) => Ok(Some(answer_octets(alloc, &answer, syntax)?)),
+                None => Ok(None),
+            },
+        }
+    }
+
+    /// Holds answers that were all found as octets.
+    pub(crate) fn pack(&mut self, alloc: Global) -> Result<(), AllocError>
+        ensures { OnOk result (self.new ≡ self.old) }
+    {
+        match self {
+            Answers::Found(queue) => queue.pack(alloc),
+            Answers::Sought(_) => Ok(()),
+        }
+    }
+
+    /// The final status.
+    pub(crate) fn status(&self) -> u16
+        ensures { result ≡ status_of self.now }
+    {
+        match self {
+            Answers::Found(queue) => queue.status(),
+            Answers::Sought(_) => SUCCESS,
+        }
+    }
+
+    /// Whether keys were left out that are not supported.
+    pub(crate) fn optional(&self) -> bool
+        ensures { result ≡ optional_of self.now }
+    {
+        match self {
+            Answers::Found(queue) => queue.optional(),
+            Answers::Sought(lazy) => lazy.optional(),
+        }
+    }
+}

@@ -1,0 +1,8 @@
+use Rattle.std.proofs.Common.{sym, ap, ◌∙◌}
+use Rattle.dq_find.specs.OpenSearches.{last_key}
+use Rattle.dq_find.proofs.InPages.{last_row}
+use Rattle.dq_find.proofs.open_search.last_key.Goals as goal
+
+pub returns : goal.returns
+returns c =
+    sym (ap last_key (sym c.into_inner-rows.ensures ∙ c.in_ok-last.ensures.items) ∙ last_row c.pop.new.self.items c.in_ok-last.last)

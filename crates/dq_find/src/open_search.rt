@@ -1,0 +1,205 @@
+//! A search that is open: its answers are found a page at a time.
+ghost use Rattle.std.specs.Prelude.{◌≡◌, ◌≤◌, ◌<◌, ◌++◌, ◌∷◌, [], true, None, Some, List, ℕ, length, take, drop, map, IfOk, OnErr};
+ghost use Rattle.dq_match.specs.Identifiers.{HasKnownTags};
+ghost use Rattle.dq_dataset.specs.Tree.{ElementList};
+ghost use Rattle.dq_tables.specs.declared.row.Row.{Row as TheRow};
+ghost use Rattle.dq_tables.specs.Rows.{Record, row_of};
+ghost use Rattle.dq_archive.specs.Pasts.{Looks};
+ghost use Rattle.dq_find.specs.Candidates.{named_rows, query_candidates};
+ghost use Rattle.dq_find.specs.OpenSearches.{Begins, TakesPage, next_candidates, left_after, left_of, last_key};
+ghost use Rattle.dq_find.specs.Queries.{record_answer};
+ghost use Rattle.dq_find.specs.declared.level.Level.TheVariants.{Study};
+
+use crate::choosing::choice_in;
+use crate::computed::octets_at;
+use crate::finding::{Search, looks_up};
+use crate::level::Level;
+use crate::query::Query;
+use dq_archive::Past;
+use dq_dataset::DataSet;
+use dq_list::Listed;
+use dq_match::PreparedKeys;
+use dq_match::laws::keys_are_met_alone_and_as_a_period;
+use dq_tables::laws::{day_numbers_are_in_order, honest_rows_are_sound};
+use dq_tables::{Kind, Row, TableFault, Tables};
+use std::alloc::{AllocError, Global};
+
+/// What a search has still to look at.
+#[derive(Drop)]
+pub(crate) enum Left {
+    /// All studies in the order of their keys, or those behind a key.
+    Studies(Option<Listed<u8>>),
+    /// The records with some keys, from a place on.
+    Named(Listed<Listed<u8>>, usize),
+    Nothing,
+}
+
+/// A search that is open: what was called, what is asked, and what is still to be looked at.
+#[derive(Drop)]
+pub struct OpenSearch {
+    called: Listed<u8>,
+    pub(crate) query: Query,
+    left: Left,
+}
+
+/// The part of some keys from a place on, at most so many.
+fn part(keys: &[Listed<u8>], from: usize, most: usize) -> &[Listed<u8>]
+    ensures { result.now ≡ take most (drop from keys.now) }
+{
+    let from = from.min(keys.len());
+    let rest = &keys[from..];
+    let most = most.min(rest.len());
+    &rest[..most]
+}
+
+/// The key of the last of some rows.
+fn last_key(rows: Listed<Row>) -> Option<Listed<u8>>
+    ensures { result ≡ last_key rows }
+{
+    let mut rows = rows.into_inner();
+    let last = rows.pop()?;
+    Some(last.key)
+}
+
+/// The keys of some rows.
+fn keys_of(alloc: Global, rows: Listed<Row>) -> Result<Listed<Listed<u8>>, AllocError>
+    ensures { IfOk result (λ keys. keys ≡ map (λ (row : TheRow). row.key) rows) }
+{
+    let mut keys = Listed::empty(alloc);
+    for row in rows.into_inner() {
+        keys.push(row.key)?;
+    }
+    Ok(keys)
+}
+
+/// Whether a query looks at all studies: it names none, and asks nothing of the patient and the day.
+fn scans_studies(alloc: Global, query: &Query) -> Result<bool, AllocError>
+    ensures { IfOk result (λ scans. scans ≡ true → query.now.level ≡ Study) }
+{
+    match query.level {
+        Level::Series | Level::Image => Ok(false),
+        Level::Study => {
+            let choice = choice_in(alloc, &query.keys)?;
+            let values = octets_at(&query.keys, query.level.unique_key());
+            Ok(
+                !looks_up(query.level, values)
+                    && choice.uid.is_none()
+                    && choice.patient.is_none()
+                    && choice.first_day.is_none()
+                    && choice.last_day.is_none(),
+            )
+        }
+    }
+}
+
+impl Left {
+    /// The rows that are looked at next, at most so many.
+    fn next_rows<T: Tables>(
+        &self,
+        archive: &mut Past<'_, T>,
+        search: &Search<'_>,
+        most: usize,
+    ) -> Result<Listed<Row>, TableFault>
+        ensures { Looks T.state archive.old archive.new (λ records.
+            map (row_of archive.old.institution.now.name)
+            (next_candidates most records search.now.query.now self.now)) result }
+    {
+        match self {
+            Left::Studies(None) => archive.rows_from(Kind::Study, 0, most),
+            Left::Studies(Some(key)) => archive.rows_after(Kind::Study, key.as_slice(), most),
+            Left::Named(keys, from) => {
+                let next = part(keys.as_slice(), *from, most);
+                search.rows_with(archive, next)
+            }
+            Left::Nothing => Ok(Listed::empty(archive.alloc)),
+        }
+    }
+
+    /// Leaves what was looked at behind.
+    fn pass(&mut self, rows: Listed<Row>, most: usize)
+        ensures { self.new ≡ left_after most rows self.old }
+    {
+        match self {
+            Left::Studies(_) => {
+                *self = match last_key(rows) {
+                    Some(key) => Left::Studies(Some(key)),
+                    None => Left::Nothing,
+                };
+            }
+            Left::Named(keys, from) => *from += part(keys.as_slice(), *from, most).len(),
+            Left::Nothing => {}
+        }
+    }
+}
+
+impl OpenSearch {
+    /// Begins a search: all its answers are left.
+    pub fn begin<T: Tables>(
+        archive: &mut Past<'_, T>,
+        called: &[u8],
+        query: Query,
+    ) -> Result<OpenSearch, TableFault>
+        requires { HasKnownTags query.keys }
+        ensures { Begins T.state archive.old archive.new called.now query result }
+    {
+        honest_rows_are_sound::<T>();
+        day_numbers_are_in_order();
+        keys_are_met_alone_and_as_a_period();
+        query.keys.has_facts();
+        let called = Listed::copy_of(archive.alloc, called)?;
+        if scans_studies(archive.alloc, &query)? {
+            return Ok(OpenSearch {
+                called,
+                query,
+                left: Left::Studies(None),
+            });
+        }
+        let prepared = PreparedKeys::of(archive.alloc, &query.keys)?;
+        let search = Search {
+            called: called.as_slice(),
+            query: &query,
+            prepared: &prepared,
+        };
+        let rows = search.rows(archive)?;
+        let keys = keys_of(archive.alloc, rows)?;
+        Ok(OpenSearch {
+            called,
+            query,
+            left: Left::Named(keys, 0),
+        })
+    }
+
+    /// Looks at the next records, at most so many, and takes their answers.
+    pub fn next_page<T: Tables>(
+        &mut self,
+        archive: &mut Past<'_, T>,
+        most: usize,
+    ) -> Result<Listed<DataSet>, TableFault>
+        requires some { 0 < most }
+        requires known { HasKnownTags self.old.query.keys }
+        ensures { TakesPage T.state archive.old archive.new most self.old self.new result }
+    {
+        honest_rows_are_sound::<T>();
+        let prepared = PreparedKeys::of(archive.alloc, &self.query.keys)?;
+        let search = Search {
+            called: self.called.as_slice(),
+            query: &self.query,
+            prepared: &prepared,
+        };
+        let rows = self.left.next_rows(archive, &search, most)?;
+        let page = search.answers_of(archive, rows.as_slice(), 0, None)?;
+        self.left.pass(rows, most);
+        Ok(page)
+    }
+
+    /// Whether nothing is left to look at, so that no answer is left.
+    pub fn is_done(&self) -> bool
+        ensures { result ≡ true → (records : List Record) → left_of self.now records ≡ [] }
+    {
+        match &self.left {
+            Left::Studies(_) => false,
+            Left::Named(keys, from) => keys.len() <= *from,
+            Left::Nothing => true,
+        }
+    }
+}

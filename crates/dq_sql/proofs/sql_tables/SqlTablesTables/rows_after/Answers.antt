@@ -1,0 +1,24 @@
+use Rattle.std.proofs.Common.{take, arith}
+use Rattle.sqlite.specs.State.{HasCleanDisk}
+use Rattle.sqlite.specs.Held.{state}
+use Rattle.dq_tables.specs.Finding.{rows_after}
+use Rattle.dq_sql.proofs.Keeping.{rows_set, if_ok, found_in, stays_kept, still_counted}
+use Rattle.dq_sql.proofs.sql_tables.SqlTablesTables.rows_after.Goals as goal
+
+pub invariant_of-self : goal.invariant_of-self
+invariant_of-self g c =
+    let it = c.args.self.now in
+    let stays = c.rows_after-answer.ensures.stays in
+    record {
+      alone = stays.mode it.alone;
+      keeps = stays_kept (state g.S.Store it.conn) (state g.S.Store c.rows_after-answer.new.conn) it.history.rows it.alone stays it.keeps;
+      counted = still_counted (state g.S.Store it.conn) (state g.S.Store c.rows_after-answer.new.conn) it.history.rows it.counts stays.survives it.counted;
+    }
+
+pub returns-clause-found : goal.returns-clause-found
+returns-clause-found g c clean =
+    let it = c.args.self.now in
+    let before : HasCleanDisk (state g.S.Store it.conn) = omega (arith, c.rows_after-answer.ensures.stays.survives.clean) in
+    rw c.noted.ensures.same
+    (if_ok c.rows_after-answer.result _ _ (λ found h. found_in rows_set (state g.S.Store it.conn) it.history.rows (λ rows. take c.args.most (rows_after c.args.kind c.args.institution.now c.args.key.now rows)) found it.keeps before h)
+    (c.rows_after-answer.ensures.found clean))
