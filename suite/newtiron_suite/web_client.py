@@ -29,10 +29,14 @@ class Response:
             self.faults.append(f"no status line: {line!r}")
         for one in fields:
             field = re.fullmatch(r"([!#$%&'*+.^_`|~0-9A-Za-z-]+):[ \t]*(.*?)[ \t]*", one)
-            if field is None or field[1].lower() in self.fields:
+            name = "" if field is None else field[1].lower()
+            if field is not None and name == "warning" and name in self.fields:
+                # a list, which may stand in several fields (RFC 9110 section 5.3)
+                self.fields[name] += f", {field[2]}"
+            elif field is None or name in self.fields:
                 self.faults.append(f"a bad field: {one!r}")
             else:
-                self.fields[field[1].lower()] = field[2]
+                self.fields[name] = field[2]
         if self.status >= 200:
             self.check_fields()
 

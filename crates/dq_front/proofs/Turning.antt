@@ -5,7 +5,7 @@ use Rattle.std.specs.declared.net.socket_addr.SocketAddr.{SocketAddr}
 use Rattle.dq_wires.proofs.Rounding.{get-at, set-at, remove-at}
 use Rattle.dq_web.specs.declared.guard.Guard.{Guard}
 use Rattle.dq_front.specs.declared.visitor.Visitor.{Visitor}
-use Rattle.dq_front.specs.Visits.{IsNew, Turns}
+use Rattle.dq_front.specs.Visits.{IsNew, HasTurn}
 use Rattle.dq_front.specs.Waiting.{AllTurn, AreNew, LetsIn}
 
 -- connections that came, and then others
@@ -27,7 +27,7 @@ lets_then old mid new (came, are, is) (more, news, held) = (
 )
 
 -- one more had its turn
-pub turn-kept : (guard : Guard) (done kept : List Visitor) (visitor next : Visitor) → AllTurn guard done kept → Turns guard visitor next
+pub turn-kept : (guard : Guard) (done kept : List Visitor) (visitor next : Visitor) → AllTurn guard done kept → HasTurn guard visitor next
     → AllTurn guard (done ++ visitor ∷ []) (kept ++ next ∷ [])
 turn-kept guard [] kept visitor next are turns = inr (next, [], ap (λ (l : List Visitor). l ++ next ∷ []) are, turns, refl)
 turn-kept guard (first ∷ done) kept visitor next (inl are) turns = inl (turn-kept guard done kept visitor next are turns)
@@ -57,7 +57,7 @@ pub record TurnsSo (guard : Guard) (all now : List Visitor) (at : ℕ) : Type 0 
 
 module _ {guard : Guard} {all now : List Visitor} {at : ℕ} (so : TurnsSo guard all now at) where
   module _ (within : at < length now) (visitor : Visitor) (found : visitor ≡ get_or now at visitor) where
-    pub turns-kept : (next : Visitor) → Turns guard visitor next → TurnsSo guard all (set now at next) (at + 1)
+    pub turns-kept : (next : Visitor) → HasTurn guard visitor next → TurnsSo guard all (set now at next) (at + 1)
     turns-kept next turns = by so.others so.were so.holds where
       by : (others : List Visitor) → all ≡ so.done ++ others → now ≡ so.kept ++ others → TurnsSo guard all (set now at next) (at + 1)
       by [] were holds = absurd (omega (arith, so.place, within, ap length holds, length-append so.kept []))

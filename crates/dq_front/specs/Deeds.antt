@@ -1,5 +1,5 @@
 -- What is done for the octets that came of a connection.
-use Rattle.std.specs.Prelude.{◌≡◌, ◌⊎◌, ℕ, true, IsTrue, List, string_bytes}
+use Rattle.std.specs.Prelude.{◌≡◌, ℕ, true, IsTrue, List, string_bytes}
 use Rattle.dq_web.specs.declared.asking.Asked.{Asked}
 use Rattle.dq_web.specs.declared.asking.Asked.TheVariants as asked
 use Rattle.dq_web.specs.declared.asking.Question.{Question}
@@ -8,6 +8,7 @@ use Rattle.dq_web.specs.declared.cutting.Head.{Head}
 use Rattle.dq_web.specs.declared.cutting.HttpRequest.{HttpRequest}
 use Rattle.dq_web.specs.declared.guard.Guard.{Guard}
 use Rattle.dq_web.specs.declared.refusal.Refusal.{Refusal}
+use Rattle.dq_web.specs.declared.refusal.Refusal.TheVariants as refusal
 use Rattle.dq_web.specs.declared.replies.Framing.{Framing}
 use Rattle.dq_web.specs.declared.replies.Written.{Written}
 use Rattle.dq_web.specs.Answers.{IsWritten, refusal_reply, misspelled_reply, document_reply, health_reply}
@@ -53,11 +54,15 @@ pub record IsAnswer (guard : Guard) (came : List ℕ) (answer : Answer) : Type 0
 abbrev pub IsAwaited : Guard → List ℕ → Head → Type 0
 IsAwaited guard came head = IsCutOff came (cut.Begun head) × IsJudged guard head
 
+-- the response to a request that did not come in the time that it has (RFC 9110 section 15.5.9)
+abbrev pub IsTooLate : Written → Type 0
+IsTooLate written = (framing : Framing) × (framing.is_last ≡ true) × IsRefusal refusal.Time framing written
+
 -- Nothing is done for what is no whole head, or for a head that is let in, whose body is awaited; only such a
 -- sender is told to go on. A refusal ends the connection.
 abbrev pub IsDeed : Guard → List ℕ → Deed → Type 0
-IsDeed guard came deed.Wait =
-    IsCutOff came cut.Unfinished ⊎ ((head : Head) × IsAwaited guard came head)
+IsDeed guard came deed.AwaitHead = IsCutOff came cut.Unfinished
+IsDeed guard came deed.AwaitBody = (head : Head) × IsAwaited guard came head
 IsDeed guard came deed.GoOn = (head : Head) × IsAwaited guard came head × IsTrue (is_expecting head)
 IsDeed guard came (deed.Refuse words written) = (refusal : Refusal) × (framing : Framing)
     × (framing.is_last ≡ true) × IsRefusal refusal framing written

@@ -1,7 +1,9 @@
 -- What a connection of the web front reads and writes.
-use Rattle.std.specs.Prelude.{◌≡◌, ◌⊎◌, ◌++◌, ◌&&◌, ℕ, ◌<◌, Bool, true, false, not, is_some, IsTrue, if◌then◌else◌, List, [], length, drop, Option, Some, None, Result}
+use Rattle.std.specs.Prelude.{◌≡◌, ◌⊎◌, ◌++◌, ◌&&◌, ℕ, ◌<◌, ◌*◌, ◌-◌, nat_le, Bool, true, false, not, is_some, IsTrue, if◌then◌else◌, List, [], length, drop, Option, Some, None, Result}
 use Rattle.std.specs.Borrow.{Bor}
+use Rattle.std.specs.Time.{instant_nanos}
 use Rattle.std.specs.declared.net.socket_addr.SocketAddr.{SocketAddr}
+use Rattle.std.specs.declared.time.Instant.{Instant}
 use Rattle.dq_config.specs.declared.config.Institution.{Institution}
 use Rattle.dq_list.specs.Lengths.{is_empty}
 use Rattle.dq_request.specs.declared.request.Request.{Request}
@@ -22,7 +24,7 @@ use Rattle.dq_front.specs.declared.visitor.TheConstants.{CONTINUE}
 use Rattle.dq_front.specs.declared.visitor.Stage.{Stage}
 use Rattle.dq_front.specs.declared.visitor.Stage.TheVariants as stage
 use Rattle.dq_front.specs.declared.visitor.Visitor.{Visitor}
-use Rattle.dq_front.specs.Deeds.{IsDeed}
+use Rattle.dq_front.specs.Deeds.{IsDeed, IsTooLate}
 
 -- one that has just come from a peer, and of which nothing is read
 pub record IsNew (place : ℕ) (peer : Option SocketAddr) (visitor : Visitor) : Type 0 where
@@ -33,6 +35,7 @@ pub record IsNew (place : ℕ) (peer : Option SocketAddr) (visitor : Visitor) : 
   pub last : visitor.is_last ≡ false
   pub fresh : visitor.is_fresh ≡ false
   pub continued : visitor.is_continued ≡ false
+  pub awaits : visitor.awaits_body ≡ false
 
 -- ---- what it asks
 
@@ -115,10 +118,16 @@ abbrev pub IsRead : Visitor → Visitor → Type 0
 IsRead old new = ((more : List ℕ) × (new.came.items ≡ old.came.items ++ more))
     × (new ≡ record old { came = new.came; is_fresh = new.is_fresh })
 
--- a request of this extent is taken off what came
+-- A request of this extent is taken off what came. No other is waited for until an octet of it has come.
 abbrev pub IsTakenOff : ℕ → Visitor → Visitor → Type 0
 IsTakenOff extent old new = (new.came.items ≡ drop extent old.came.items)
-    × (new ≡ record old { came = new.came; is_fresh = not (is_empty new.came.items); is_continued = false })
+    × (new ≡ record old {
+      came = new.came;
+      is_fresh = not (is_empty new.came.items);
+      is_continued = false;
+      awaits_body = false;
+      since = None;
+    })
 
 -- what was looked at
 abbrev pub seen : Visitor → Visitor
@@ -129,14 +138,24 @@ abbrev pub stage_of : Given → Stage
 stage_of (given.Response written) = stage.Writing written.octets.items 0
 stage_of (given.Question question) = stage.Waiting question
 
+-- the body of its request is waited for, from now on or since before
+abbrev pub awaiting_body : Option Instant → Visitor → Visitor
+awaiting_body now visitor = if visitor.awaits_body then visitor
+    else record visitor { awaits_body = true; since = now }
+
+-- its client is told to go on with the body, once
+abbrev pub going_on : Visitor → Visitor
+going_on visitor = if visitor.is_continued then visitor
+    else record (with_response visitor CONTINUE.now) { is_continued = true }
+
 -- what a connection becomes by what is done for the octets that came of it
-abbrev pub Takes : Deed → Visitor → Visitor → Type 0
-Takes deed.Wait old new = new ≡ seen old
-Takes deed.GoOn old new = new ≡ (if old.is_continued then seen old
-    else record (with_response (seen old) CONTINUE.now) { is_continued = true })
-Takes (deed.Refuse words written) old new =
+abbrev pub Takes : Option Instant → Deed → Visitor → Visitor → Type 0
+Takes now deed.AwaitHead old new = new ≡ seen old
+Takes now deed.AwaitBody old new = new ≡ awaiting_body now (seen old)
+Takes now deed.GoOn old new = new ≡ going_on (awaiting_body now (seen old))
+Takes now (deed.Refuse words written) old new =
     new ≡ record (with_response (seen old) written.octets.items) { is_last = true }
-Takes (deed.Answer answer) old new = (mid : Visitor) × IsTakenOff answer.extent old mid
+Takes now (deed.Answer answer) old new = (mid : Visitor) × IsTakenOff answer.extent old mid
     × (new ≡ record mid { stage = stage_of answer.given; is_last = answer.is_last; words = answer.words; begun = new.begun })
 
 abbrev pub is_reading : Stage → Bool
@@ -147,9 +166,42 @@ abbrev pub is_to_take : Visitor → Bool
 is_to_take visitor = visitor.is_fresh && is_reading visitor.stage
 
 -- where a request is read, and something came that was not looked at, what is to be done for it is done
-abbrev pub TakesUp : Guard → Visitor → Visitor → Type 0
-TakesUp guard old new = ((is_to_take old ≡ false) × (new ≡ old))
-    ⊎ (IsTrue (is_to_take old) × ((deed : Deed) × IsDeed guard old.came.items deed × Takes deed old new))
+abbrev pub TakesUp : Guard → Option Instant → Visitor → Visitor → Type 0
+TakesUp guard now old new = ((is_to_take old ≡ false) × (new ≡ old))
+    ⊎ (IsTrue (is_to_take old) × ((deed : Deed) × IsDeed guard old.came.items deed × Takes now deed old new))
+
+-- ---- the time that a request has
+
+-- its first octets have come
+abbrev pub begun_wait : Option Instant → Visitor → Visitor
+begun_wait now visitor =
+    if not (is_some visitor.since) && not (is_empty visitor.came.items) then record visitor { since = now }
+    else visitor
+
+-- how many seconds a head has to come, and then its body
+abbrev pub seconds_for : Bool → ℕ
+seconds_for false = 15
+seconds_for true = 60
+
+-- as long as that has passed since an instant
+abbrev pub is_past : Option Instant → Option Instant → ℕ → Bool
+is_past (Some now) (Some since) seconds =
+    nat_le (seconds * 1_000_000_000) (instant_nanos now - instant_nanos since)
+is_past now since seconds = false
+
+-- what a connection waits for did not come in that time
+abbrev pub is_late : Option Instant → Visitor → Bool
+is_late now visitor = is_reading visitor.stage && is_past now visitor.since (seconds_for visitor.awaits_body)
+
+-- it is told so, and nothing comes after that
+abbrev pub IsRefusedLate : Visitor → Visitor → Type 0
+IsRefusedLate old new = (written : Written) × IsTooLate written
+    × (new ≡ record (with_response (seen old) written.octets.items) { is_last = true })
+
+-- what came is taken up, unless it is late
+abbrev pub TakesOrRefuses : Guard → Option Instant → Visitor → Visitor → Type 0
+TakesOrRefuses guard now old new = (IsTrue (is_late now old) × IsRefusedLate old new)
+    ⊎ ((is_late now old ≡ false) × TakesUp guard now old new)
 
 -- ---- its turn
 
@@ -160,6 +212,11 @@ Moves (stage.Waiting question) old new = new ≡ old
 Moves (stage.Writing response written) old new = IsSent old new × (IsOver new.stage → ⊥)
 Moves stage.Over old new = ⊥
 
--- then what came is taken up
-abbrev pub Turns : Guard → Visitor → Visitor → Type 0
-Turns guard old new = (mid : Visitor) × Moves old.stage old mid × TakesUp guard mid new
+-- then what came is taken up, or refused where it is late
+abbrev pub Turns : Guard → Option Instant → Visitor → Visitor → Type 0
+Turns guard now old new = (mid : Visitor) × Moves old.stage old mid
+    × TakesOrRefuses guard now (begun_wait now mid) new
+
+-- that at some instant
+abbrev pub HasTurn : Guard → Visitor → Visitor → Type 0
+HasTurn guard old new = (now : Option Instant) × Turns guard now old new

@@ -8,7 +8,7 @@ use Rattle.dq_request.specs.declared.response.Response.{Response}
 use Rattle.dq_web.specs.declared.guard.Guard.{Guard}
 use Rattle.dq_front.specs.declared.front.Front.{Front}
 use Rattle.dq_front.specs.declared.visitor.Visitor.{Visitor}
-use Rattle.dq_front.specs.Visits.{IsNew, is_waiting, asked_in, AnswersAt, Turns}
+use Rattle.dq_front.specs.Visits.{IsNew, is_waiting, asked_in, AnswersAt, HasTurn}
 
 -- where the first connection stands whose request waits
 abbrev pub first_waiting : List Visitor → Option ℕ
@@ -46,7 +46,7 @@ Answers institutions old new response = AnswersOne institutions (first_waiting o
 abbrev pub AllTurn : Guard → List Visitor → List Visitor → Type 0
 AllTurn guard [] new = new ≡ []
 AllTurn guard (visitor ∷ others) new = AllTurn guard others new
-    ⊎ ((kept : Visitor) × (rest : List Visitor) × (new ≡ kept ∷ rest) × Turns guard visitor kept
+    ⊎ ((kept : Visitor) × (rest : List Visitor) × (new ≡ kept ∷ rest) × HasTurn guard visitor kept
     × AllTurn guard others rest)
 
 abbrev pub AreNew : List Visitor → Type 0

@@ -3,7 +3,7 @@ ghost use Rattle.std.specs.Prelude.{◌≡◌, ℕ, List, map, IfOk};
 ghost use Rattle.dq_web.specs.Answers.{IsReplyTo, IsResponse};
 ghost use Rattle.dq_web.specs.Requests.{IsCutOff, IsRequest};
 ghost use Rattle.dq_web.specs.declared.cutting.Cut.TheVariants as cut;
-ghost use Rattle.dq_front.specs.Deeds.{IsGiven, IsAnswer, IsDeed};
+ghost use Rattle.dq_front.specs.Deeds.{IsGiven, IsAnswer, IsDeed, IsTooLate};
 ghost use Rattle.dq_front.specs.Sites.{limits_of};
 
 use crate::noting::{UNREADABLE, words_of};
@@ -11,8 +11,8 @@ use dq_config::Institution;
 use dq_list::Listed;
 use dq_request::Response;
 use dq_web::{
-    Asked, Counters, Cut, Framing, Guard, Head, HttpRequest, Question, Written, answered, ask,
-    cut_off, document, healthy, judge, misspelled, refused,
+    Asked, Counters, Cut, Framing, Guard, Head, HttpRequest, Question, Refusal, Written, answered,
+    ask, cut_off, document, healthy, judge, misspelled, refused,
 };
 use httpdate::HttpDate;
 use std::alloc::{AllocError, Global};
@@ -20,8 +20,10 @@ use std::alloc::{AllocError, Global};
 /// What is done for the octets that came of a connection.
 #[derive(Drop)]
 pub(crate) enum Deed {
-    /// Nothing yet: a request is not whole.
-    Wait,
+    /// Nothing yet: a head is not whole.
+    AwaitHead,
+    /// Nothing yet: a head is let in, and its body has not come.
+    AwaitBody,
     /// The client, whose head is let in, is told to go on.
     GoOn,
     /// A response is written, and nothing comes after it: the words of the request in the log, and it.
@@ -106,7 +108,7 @@ impl Site {
         ensures { IfOk result (IsDeed self.now.guard came.now) }
     {
         match cut_off(came) {
-            Cut::Unfinished => Ok(Deed::Wait),
+            Cut::Unfinished => Ok(Deed::AwaitHead),
             Cut::Begun(head) => self.deed_for_head(&head, date),
             Cut::Refused(refusal) => {
                 let framing = Framing {
@@ -137,7 +139,27 @@ impl Site {
                 Ok(Deed::Refuse(words, refused(self.alloc, refusal, framing)?))
             }
             None if head.is_expecting() => Ok(Deed::GoOn),
-            None => Ok(Deed::Wait),
+            None => Ok(Deed::AwaitBody),
+        }
+    }
+
+    /// The response to a request that did not come in the time that it has.
+    pub(crate) fn too_late(&self, date: Option<HttpDate>) -> Result<Written, AllocError>
+        ensures { IfOk result (IsTooLate) }
+    {
+        let framing = Framing {
+            is_last: true,
+            is_head: false,
+            date,
+        };
+        refused(self.alloc, Refusal::Time, framing)
+    }
+
+    /// The words in the log of a request that has not come whole.
+    pub(crate) fn words_of_begun(&self, came: &[u8]) -> Result<String, AllocError> {
+        match cut_off(came) {
+            Cut::Begun(head) => words_of(self.alloc, &head),
+            _ => String::from_str(self.alloc, UNREADABLE),
         }
     }
 

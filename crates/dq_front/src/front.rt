@@ -11,6 +11,7 @@ use dq_request::{Request, Response};
 use dq_web::Counters;
 use dq_wires::{GivesUp, READ_MOST, Wires};
 use std::alloc::AllocError;
+use std::time::Instant;
 
 /// The most connections at a time.
 const MOST_VISITORS: usize = 64;
@@ -111,13 +112,14 @@ impl<W: Wires + GivesUp + Drop> Front<W> {
     pub fn attend(&mut self)
         ensures { Attended self.old self.new }
     {
-        self.let_in();
+        let now = self.notes.now();
+        self.let_in(now);
         let mut at = 0;
         while at < self.visitors.len() {
             let visitor = &mut self.visitors[at];
             let place = visitor.place;
             let buffer = self.buffer.as_mut_slice();
-            if visitor.turn(&mut self.wires, buffer, &self.site, &mut self.notes) {
+            if visitor.turn(&mut self.wires, buffer, &self.site, &mut self.notes, now) {
                 at += 1;
             } else {
                 let _ = self.visitors.remove(at);
@@ -128,14 +130,14 @@ impl<W: Wires + GivesUp + Drop> Front<W> {
 
     // Lets a connection in that came. One for which there is no memory is let go.
     #[tactic(auto, using(crate::proofs::Turning::lets_none, crate::proofs::Turning::lets_one))]
-    fn admit(&mut self, place: usize)
+    fn admit(&mut self, place: usize, now: Option<Instant>)
         ensures came { LetsIn self.old.visitors.items self.new.visitors.items }
         ensures site { self.new.site ≡ self.old.site }
     {
         let peer = self.wires.peer(place);
         match self
             .visitors
-            .push(Visitor::new(self.site.alloc, place, peer))
+            .push(Visitor::new(self.site.alloc, place, peer, now))
         {
             Ok(()) => {}
             Err(_) => {
@@ -146,15 +148,16 @@ impl<W: Wires + GivesUp + Drop> Front<W> {
 
     // Lets those in that come, as long as there is room.
     #[tactic(auto, using(crate::proofs::Turning::lets_none))]
-    fn let_in(&mut self)
+    fn let_in(&mut self, now: Option<Instant>)
         ensures came { LetsIn self.old.visitors.items self.new.visitors.items }
         ensures site { self.new.site ≡ self.old.site }
     {
         for _visitor in self.visitors.len()..MOST_VISITORS {
             let Ok(Some(place)) = self.wires.accept() else {
+                self.notes.turn_away(self.wires.turned_away());
                 return;
             };
-            self.admit(place);
+            self.admit(place, now);
         }
     }
 }

@@ -1,9 +1,10 @@
 //! What a log tells of a request.
-ghost use Rattle.std.specs.Prelude.{◌≡◌, ◌++◌, ◌==◌, [], position, string_bytes, take, IfOk, OnOk};
+ghost use Rattle.std.specs.Prelude.{◌≡◌, ◌++◌, ◌==◌, [], None, position, string_bytes, take, IfOk, OnOk};
 ghost use Rattle.std.specs.List.{list_all};
 ghost use Rattle.dq_front.specs.Notes.{told_octet, told_text, is_of_name, path_of, parts_of, words_text, peer_text, HasNote};
 
 use dq_web::{Head, Status};
+use dq_wires::GivenUp;
 use httpdate::HttpDate;
 use std::alloc::{AllocError, Global};
 use std::mem;
@@ -168,6 +169,18 @@ impl Notes {
         let peer = peer_text(self.alloc, peer)?;
         let line = format!(in self.alloc; "{peer} {words} {code} ms {milliseconds}\n")?;
         self.lines.push_str(line.as_str())
+    }
+
+    /// Adds a note of a connection that was closed when it came, if one was.
+    pub fn turn_away(&mut self, turned_away: Option<GivenUp>)
+        ensures { turned_away ≡ None → self.new ≡ self.old }
+    {
+        let Some(given_up) = turned_away else {
+            return;
+        };
+        if let Ok(line) = format!(in self.alloc; "{given_up}\n") {
+            let _ = self.lines.push_str(line.as_str());
+        }
     }
 
     /// The notes since this was last asked.

@@ -1,8 +1,9 @@
 //! A connection of the web front.
-ghost use Rattle.std.specs.Prelude.{◌≡◌, option_copied, IfOk, OnOk};
+ghost use Rattle.std.specs.Prelude.{◌≡◌, Option, option_copied, IfOk, OnOk};
 ghost use Rattle.std.specs.Bool.{OnTrue};
+ghost use Rattle.std.specs.declared.time.Instant.{Instant};
 ghost use Rattle.dq_web.specs.Answers.{IsReplyTo, IsResponse};
-ghost use Rattle.dq_front.specs.Visits.{IsNew, IsOver, IsRest, WritesRest, IsSent, IsRead, IsTakenOff, with_response, AnswersAt, Takes, TakesUp, Moves, Turns, is_waiting, is_busy, asked_in, asks_report};
+ghost use Rattle.dq_front.specs.Visits.{IsNew, IsOver, IsRest, WritesRest, IsSent, IsRead, IsTakenOff, with_response, AnswersAt, seen, awaiting_body, begun_wait, is_late, IsRefusedLate, Takes, TakesUp, TakesOrRefuses, Moves, Turns, is_waiting, is_busy, asked_in, asks_report};
 
 use crate::deeds::{Answer, Deed, Given, Site};
 use crate::noting::Notes;
@@ -12,7 +13,14 @@ use dq_web::{Question, Written};
 use dq_wires::{ReadTurn, WireFault, Wires};
 use std::alloc::{AllocError, Global};
 use std::net::SocketAddr;
-use std::time::Instant;
+use std::time::{Duration, Instant};
+
+/// The seconds in which the head of a request has to come, from the first octet of it, and of the first
+/// request from when the connection came.
+const HEAD_SECONDS: u64 = 15;
+
+/// The seconds in which its body has to come, from the end of its head.
+const BODY_SECONDS: u64 = 60;
 
 /// What a client waits for that asks to go on with the body of its request (RFC 9110 section 10.1.1).
 const CONTINUE: &[u8] = b"HTTP/1.1 100 Continue\r\n\r\n";
@@ -43,15 +51,20 @@ pub(crate) struct Visitor {
     pub is_fresh: bool,
     /// The client was told to go on with the body of its request.
     pub is_continued: bool,
+    /// The head of its request is whole, and its body has not come.
+    pub awaits_body: bool,
+    /// When the wait for its head or for its body began, if one is waited for.
+    pub since: Option<Instant>,
     /// The words of its request in the log, and when that was whole.
     pub words: String,
     pub begun: Option<Instant>,
 }
 
 impl Visitor {
-    /// One that has just come.
-    pub fn new(alloc: Global, place: usize, peer: Option<SocketAddr>) -> Self
+    /// One that has just come, at an instant if it is known.
+    pub fn new(alloc: Global, place: usize, peer: Option<SocketAddr>, now: Option<Instant>) -> Self
         ensures { IsNew place peer result }
+        ensures since { result.since ≡ now }
     {
         Visitor {
             place,
@@ -61,6 +74,8 @@ impl Visitor {
             is_last: false,
             is_fresh: false,
             is_continued: false,
+            awaits_body: false,
+            since: now,
             words: String::new(alloc),
             begun: None,
         }
@@ -216,12 +231,15 @@ impl Visitor {
         self.came = rest;
         self.is_fresh = !self.came.is_empty();
         self.is_continued = false;
+        self.awaits_body = false;
+        self.since = None;
         Ok(())
     }
 
     // Takes the answer to the request that stands at the front of what came.
     fn take(&mut self, answer: Answer, notes: &mut Notes) -> Result<(), AllocError>
-        ensures { OnOk result (Takes (Deed.Answer answer) self.old self.new) }
+        ensures { (now : Option Instant)
+            → OnOk result (Takes now (Deed.Answer answer) self.old self.new) }
     {
         self.take_off(answer.extent)?;
         self.is_last = answer.is_last;
@@ -237,11 +255,22 @@ impl Visitor {
         Ok(())
     }
 
-    // Tells the client to go on, once.
-    fn go_on(&mut self, alloc: Global) -> Result<(), AllocError>
-        ensures { OnOk result (Takes Deed.GoOn self.old self.new) }
+    // Waits for the body of its request, from now on or since before.
+    fn await_body(&mut self, now: Option<Instant>)
+        ensures { self.new ≡ awaiting_body now (seen self.old) }
     {
         self.is_fresh = false;
+        if !self.awaits_body {
+            self.awaits_body = true;
+            self.since = now;
+        }
+    }
+
+    // Tells the client to go on, once.
+    fn go_on(&mut self, alloc: Global, now: Option<Instant>) -> Result<(), AllocError>
+        ensures { OnOk result (Takes now Deed.GoOn self.old self.new) }
+    {
+        self.await_body(now);
         if self.is_continued {
             return Ok(());
         }
@@ -251,15 +280,21 @@ impl Visitor {
     }
 
     // Takes up what came, where a request is read and there is something new.
-    fn take_up(&mut self, site: &Site, notes: &mut Notes) -> Result<(), AllocError>
-        ensures { OnOk result (TakesUp site.now.guard self.old self.new) }
+    fn take_up(
+        &mut self,
+        site: &Site,
+        notes: &mut Notes,
+        now: Option<Instant>,
+    ) -> Result<(), AllocError>
+        ensures { OnOk result (TakesUp site.now.guard now self.old self.new) }
     {
         if !self.is_fresh || !matches!(self.stage, Stage::Reading) {
             return Ok(());
         }
         match site.deed_for(self.came.as_slice(), notes.date())? {
-            Deed::Wait => self.is_fresh = false,
-            Deed::GoOn => self.go_on(site.alloc)?,
+            Deed::AwaitHead => self.is_fresh = false,
+            Deed::AwaitBody => self.await_body(now),
+            Deed::GoOn => self.go_on(site.alloc, now)?,
             Deed::Refuse(words, written) => {
                 let begun = notes.now();
                 notes.tell(self.peer, words.as_str(), begun, written.status)?;
@@ -285,20 +320,82 @@ impl Visitor {
         }
     }
 
-    /// Its turn: a response is written, or what comes is read, and taken up. The answer is whether the
-    /// connection is still there.
+    // The first octets of a request have come.
+    fn begin_wait(&mut self, now: Option<Instant>)
+        ensures { self.new ≡ begun_wait now self.old }
+    {
+        if self.since.is_none() && !self.came.is_empty() {
+            self.since = now;
+        }
+    }
+
+    // Whether the head or the body that it waits for has not come in the time that it has.
+    fn is_late(&self, now: Option<Instant>) -> bool
+        ensures { result ≡ is_late now self.now }
+    {
+        let seconds = if self.awaits_body {
+            BODY_SECONDS
+        } else {
+            HEAD_SECONDS
+        };
+        match (now, self.since) {
+            (Some(now), Some(since)) => {
+                matches!(self.stage, Stage::Reading)
+                    && now.duration_since(since) >= Duration::from_secs(seconds)
+            }
+            _ => false,
+        }
+    }
+
+    // Refuses a request that is late.
+    fn refuse_late(&mut self, site: &Site, notes: &mut Notes) -> Result<(), AllocError>
+        ensures { OnOk result (IsRefusedLate self.old self.new) }
+    {
+        let words = site.words_of_begun(self.came.as_slice())?;
+        let written = site.too_late(notes.date())?;
+        notes.tell(self.peer, words.as_str(), self.since, written.status)?;
+        self.is_fresh = false;
+        self.is_last = true;
+        self.put(written.octets);
+        Ok(())
+    }
+
+    // Takes up what came, or refuses what is late.
+    fn take_or_refuse(
+        &mut self,
+        site: &Site,
+        notes: &mut Notes,
+        now: Option<Instant>,
+    ) -> Result<(), AllocError>
+        ensures { OnOk result (TakesOrRefuses site.now.guard now self.old self.new) }
+    {
+        if self.is_late(now) {
+            self.refuse_late(site, notes)
+        } else {
+            self.take_up(site, notes, now)
+        }
+    }
+
+    /// Its turn at an instant: a response is written, or what comes is read, and taken up, unless it is
+    /// late. The answer is whether the connection is still there: one on which nothing has come in the
+    /// time that a head has is not.
     pub fn turn<W: Wires>(
         &mut self,
         wires: &mut W,
         buffer: &mut [u8],
         site: &Site,
         notes: &mut Notes,
+        now: Option<Instant>,
     ) -> bool
-        ensures { OnTrue result (Turns site.now.guard self.old self.new) }
+        ensures { OnTrue result (Turns site.now.guard now self.old self.new) }
     {
         if !self.moves(wires, buffer) {
             return false;
         }
-        matches!(self.take_up(site, notes), Ok(()))
+        if self.is_late(now) && self.came.is_empty() {
+            return false;
+        }
+        self.begin_wait(now);
+        matches!(self.take_or_refuse(site, notes, now), Ok(()))
     }
 }

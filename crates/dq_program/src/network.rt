@@ -4,6 +4,7 @@ ghost use Rattle.std.specs.Option.{option_copied};
 ghost use Rattle.dq_words.specs.Words.{WebFront, web_front_in};
 ghost use Rattle.dq_web.specs.KeyFiles.{AreSpelled};
 ghost use Rattle.dq_wires.specs.declared.given_up.Limits.{Limits};
+ghost use Rattle.dq_program.specs.Serving.{limit_of};
 
 use crate::server_sockets::{AssociationSockets, ConsoleSockets, Counted, FrontSockets};
 use dq_captures::{Folder, Host, Unread};
@@ -199,12 +200,27 @@ fn log_of(
     }
 }
 
-// Has those who say nothing let go.
-fn let_go_quiet(wires: &mut SocketWires) {
+/// A count, where it is limited: 0 is no limit.
+pub(crate) fn limit_of(count: u32) -> Option<u32>
+    ensures { result ≡ limit_of count }
+{
+    if count > 0 { Some(count) } else { None }
+}
+
+/// How many connections of an address there may be.
+pub(crate) fn connections_of(count: u32) -> Option<usize>
+    ensures { result ≡ limit_of count }
+{
+    let count = limit_of(count)?;
+    Some(count as usize)
+}
+
+// Has those who say nothing let go, and at once those of whose address there are as many as may be.
+fn limit_callers(wires: &mut SocketWires, peer_connections: Option<usize>) {
     wires.set_limits(Limits {
         artim: None,
         quiet: Some(Duration::from_secs(CALLER_QUIET)),
-        peer_connections: None,
+        peer_connections,
     });
 }
 
@@ -212,7 +228,7 @@ fn let_go_quiet(wires: &mut SocketWires) {
 fn console_at(alloc: Global, rt: &HostRuntime, path: &str) -> Result<SocketWires, Unheard> {
     match SocketWires::listen_at(alloc, rt, path) {
         Ok(mut wires) => {
-            let_go_quiet(&mut wires);
+            limit_callers(&mut wires, None);
             Ok(wires)
         }
         Err(error) => Err(why_unheard(&error)),
@@ -265,7 +281,7 @@ fn front_at<H: Host>(
         return Err(Unheard::Failed);
     };
     let mut wires = sockets_at(alloc, rt, address, web.port)?;
-    let_go_quiet(&mut wires);
+    limit_callers(&mut wires, connections_of(web.peer_connections));
     Ok(Front::new(rt, wires, site)?)
 }
 

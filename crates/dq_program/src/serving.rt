@@ -17,7 +17,7 @@ ghost use Rattle.dq_program.specs.Rounds.{RoundsWent, RoundsCut, Beside, BesideC
 ghost use Rattle.dq_program.specs.Serving.{ready_text, turn_count, limit_of, nanoseconds, AreLimits, ListensAs, IsUncalled, ArePlain, ArePlainTo, IsUnheard, Served, ServedUpTo, EndsService, StopsService};
 
 use crate::backup::OfFiles;
-use crate::network::{Entrance, Listening, Logging, Network};
+use crate::network::{Entrance, Listening, Logging, Network, connections_of, limit_of};
 use crate::reading::configured;
 use crate::reporting::names_of;
 use crate::stop::Stop;
@@ -77,27 +77,12 @@ fn desk_beside<N: Network>(
     Ok(Desk::new(alloc, console, front, names)?)
 }
 
-/// A count, where it is limited: 0 is no limit.
-fn limit_of(count: u32) -> Option<u32>
-    ensures { result ≡ limit_of count }
-{
-    if count > 0 { Some(count) } else { None }
-}
-
 /// A number of seconds, if there is one.
 fn time_of(seconds: Option<u32>) -> Option<Duration>
     ensures { option_map as_nanos result ≡ option_map nanoseconds seconds }
 {
     let seconds = seconds?;
     Some(Duration::from_secs(u64::from(seconds)))
-}
-
-/// How many connections of an address there may be.
-fn connections_of(count: u32) -> Option<usize>
-    ensures { result ≡ limit_of count }
-{
-    let count = limit_of(count)?;
-    Some(count as usize)
 }
 
 /// When the words of a service have connections given up.

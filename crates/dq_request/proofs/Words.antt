@@ -19,9 +19,9 @@ no_uid vr is uid = cc
 
 short_by : (vr : Vr) (text octets : List ℕ) → vr ≡ US → text ≢ [] → GivesValue vr text octets → SpellsShort text octets
 short_by vr text octets is some (inl gives) = gives.2
-short_by vr text octets is some (inr (inl is_one, gives)) = absurd (no_text vr is is_one)
-short_by vr text octets is some (inr (inr (inl is_one), gives)) = absurd (no_uid vr is is_one)
-short_by vr text octets is some (inr (inr (inr is_none), gives)) = absurd (some is_none)
+short_by vr text octets is some (inr (inl (uid, gives))) = absurd (no_uid vr is uid)
+short_by vr text octets is some (inr (inr (other, inl is_one, gives))) = absurd (no_text vr is is_one)
+short_by vr text octets is some (inr (inr (other, inr is_none, gives))) = absurd (some is_none)
 
 -- to an unsigned short a text that is not empty gives its number
 pub short_given : {E : Type 0} (vr : Vr) (text : List ℕ) (r : Result (Option (List ℕ)) E) → vr ≡ US → text ≢ []

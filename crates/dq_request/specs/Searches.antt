@@ -34,17 +34,25 @@ abbrev pub IsNumber : ℕ → List ℕ → ℕ → Type 0
 IsNumber bound text number = IsNumeral 10 (without_leading_plus text)
     × (digits_value 10 (without_leading_plus text) ≡ number) × (number < bound)
 
--- A text gives an attribute of a VR a value: of an unsigned short its number; else of text and of UIDs the
--- octets, with %XX for one of them (RFC 3986 section 2.1). An empty text gives any attribute the empty value.
+-- A text gives an attribute of a VR a value: of an unsigned short its number; of UIDs their octets, with a comma or a
+-- backslash between two (PS3.18 section 8.3.4.1); of text the octets, with %XX for one of them (RFC 3986 section 2.1).
+-- An empty text gives any attribute the empty value.
 abbrev pub SpellsShort : List ℕ → List ℕ → Type 0
 SpellsShort text value = (number : ℕ) × IsNumber (2 ^ 16) text number × (value ≡ to_le_bytes w16 number)
 
 abbrev pub SpellsOctets : List ℕ → List ℕ → Type 0
 SpellsOctets text value = (value ≡ percent_decode text) × (length (percent_decode text) ≤ value_most)
 
+abbrev pub uid_octet : ℕ → ℕ
+uid_octet octet = if octet == 44 then 92 else octet
+
+abbrev pub SpellsUids : List ℕ → List ℕ → Type 0
+SpellsUids text value = (value ≡ map uid_octet (percent_decode text)) × (length (percent_decode text) ≤ value_most)
+
 abbrev pub GivesValue : Vr → List ℕ → List ℕ → Type 0
 GivesValue vr text value = ((vr ≡ US) × (text ≢ []) × SpellsShort text value)
-    ⊎ (((is_text vr ≡ true) ⊎ ((vr ≡ UI) ⊎ (text ≡ []))) × SpellsOctets text value)
+    ⊎ (((vr ≡ UI) × SpellsUids text value)
+    ⊎ ((vr ≢ UI) × ((is_text vr ≡ true) ⊎ (text ≡ [])) × SpellsOctets text value))
 
 -- a name of PS3.6 chapter 6, or eight digits of a tag, and a text give this key
 abbrev pub GivesKey : List ℕ → List ℕ → Key → Type 0

@@ -2,7 +2,7 @@
 ghost use Rattle.std.specs.Prelude.{◌≡◌, ◌≢◌, ◌<◌, ◌≤◌, ◌^◌, ℕ, List, [], length, option_copied, find, Some, IfOk, IfSome, MatchOption, MatchBool};
 ghost use Rattle.percent_encoding.specs.Percent.{percent_decode};
 ghost use Rattle.dq_request.specs.declared.search.Subject.TheVariants.{Steps};
-ghost use Rattle.dq_request.specs.Searches.{IsNumber, SpellsShort, SpellsOctets, GivesValue, GivesKey, HasEquals, name_in, text_in, TakesLimit, TakesOffset, TakesKey, TakesNamed, TakesWord, RefusesWord, GivesOctets, value_most, identifier_of};
+ghost use Rattle.dq_request.specs.Searches.{IsNumber, SpellsShort, SpellsOctets, uid_octet, SpellsUids, GivesValue, GivesKey, HasEquals, name_in, text_in, TakesLimit, TakesOffset, TakesKey, TakesNamed, TakesWord, RefusesWord, GivesOctets, value_most, identifier_of};
 
 use crate::identifier::{asked_identifier, worklist_identifier};
 use dq_dataset::DataSet;
@@ -83,6 +83,29 @@ fn octets_of(alloc: Global, text: &str) -> Result<Option<Listed<u8>>, AllocError
     Ok(Some(Listed::from_inner(octets)))
 }
 
+/// What parts values (PS3.5 section 6.4), where a list of UIDs is spelled with commas (PS3.18 section
+/// 8.3.4.1).
+fn uid_octet(octet: u8) -> u8
+    ensures { result ≡ uid_octet octet }
+{
+    if octet == b',' { b'\\' } else { octet }
+}
+
+/// The UIDs that a text spells, with a comma or a backslash between two.
+fn uids_of(alloc: Global, text: &str) -> Result<Option<Listed<u8>>, AllocError>
+    ensures { IfOk result (λ value. MatchOption value (value_most < length (percent_decode text.now))
+        (SpellsUids text.now)) }
+{
+    let Some(octets) = octets_of(alloc, text)? else {
+        return Ok(None);
+    };
+    let mut uids = Listed::empty(alloc);
+    for octet in octets.as_slice() {
+        uids.push(uid_octet(*octet))?;
+    }
+    Ok(Some(uids))
+}
+
 /// The value that a text gives an attribute of a VR. Of others than text, UIDs and unsigned shorts only the
 /// empty one can be given.
 fn value_given(alloc: Global, vr: Vr, text: &str) -> Result<Option<Listed<u8>>, AllocError>
@@ -92,7 +115,10 @@ fn value_given(alloc: Global, vr: Vr, text: &str) -> Result<Option<Listed<u8>>, 
     if vr == Vr::US && !text.is_empty() {
         return short_of(alloc, text);
     }
-    if !vr.is_text() && vr != Vr::UI && !text.is_empty() {
+    if vr == Vr::UI {
+        return uids_of(alloc, text);
+    }
+    if !vr.is_text() && !text.is_empty() {
         return Ok(None);
     }
     octets_of(alloc, text)

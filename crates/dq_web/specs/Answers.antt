@@ -1,5 +1,5 @@
 -- How what the server answered becomes a response of HTTP.
-use Rattle.std.specs.Prelude.{◌≡◌, ℕ, ◌==◌, ◌++◌, ◌||◌, ◌&&◌, nat_le, Bool, false, if◌then◌else◌, List, [], ◌∷◌, flat_map, find, codes, Option, Some}
+use Rattle.std.specs.Prelude.{◌≡◌, ℕ, ◌==◌, ◌++◌, ◌||◌, ◌&&◌, nat_le, nat_lt, Bool, false, if◌then◌else◌, List, [], ◌∷◌, flat_map, find, length, codes, Option, Some}
 use Rattle.std.specs.Fmt.{decimal}
 use Rattle.std.specs.Str.{bytes_eq}
 use Rattle.json.specs.Print.{print}
@@ -16,6 +16,7 @@ use Rattle.dq_request.specs.declared.response.Response.{Response}
 use Rattle.dq_request.specs.declared.response.Response.TheVariants as told
 use Rattle.dq_request.specs.declared.response.Uncopied.{Uncopied}
 use Rattle.dq_request.specs.declared.response.Uncopied.TheVariants as uncopied
+use Rattle.dq_request.specs.declared.search.ShownPage.{ShownPage}
 use Rattle.dq_request.specs.Responses.{cause_text}
 use Rattle.dq_web.specs.declared.asking.Document.{Document}
 use Rattle.dq_web.specs.declared.asking.Document.TheVariants as document
@@ -37,7 +38,7 @@ use Rattle.dq_web.specs.Responses.{refusal_status, refusal_word, response_text}
 
 -- a response with a body
 abbrev pub plain : Status → Kind → List ℕ → Reply
-plain status what body = record { status = status; kind = what; body = body; is_literal = false }
+plain status what body = record { status = status; kind = what; body = body; is_literal = false; has_unknown = false; is_full = false }
 
 -- ---- refusals
 
@@ -104,16 +105,29 @@ abbrev pub array_text : List ElementList → List ℕ
 array_text [] = codes "[]"
 array_text (answer ∷ answers) = codes "[" ++ json_text answer ++ flat_map behind_comma answers ++ codes "]"
 
-abbrev pub array_reply : Bool → List ElementList → Reply
-array_reply is_literal answers =
-    record { status = status.Done; kind = kind.DicomJson; body = array_text answers; is_literal = is_literal }
+-- A page is full where it has as many answers as it was asked for, or 1,000: there may be more behind it.
+abbrev pub is_full : ShownPage → ℕ → Bool
+is_full page count = nat_lt 0 count && (nat_le page.limit count || nat_le 1000 count)
+
+-- a response to a search, which says where matching was to be fuzzy and was not, where a parameter was passed over, and
+-- where the page is full
+abbrev pub search_reply : Wish → Status → List ℕ → Bool → Reply
+search_reply wish status body full = record {
+  status = status;
+  kind = kind.DicomJson;
+  body = body;
+  is_literal = wish.is_fuzzy;
+  has_unknown = wish.has_unknown;
+  is_full = full;
+}
 
 -- The response to a search: the array of the answers. Where there is none, it is without content, or an empty array
--- if that is wanted (PS3.18 section 10.6.3). It says where matching was to be fuzzy and was not.
-abbrev pub found_reply : Wish → List ElementList → Reply
-found_reply wish [] = if wish.wants_array then array_reply wish.is_fuzzy []
-    else record { status = status.NoContent; kind = kind.DicomJson; body = []; is_literal = wish.is_fuzzy }
-found_reply wish (answer ∷ answers) = array_reply wish.is_fuzzy (answer ∷ answers)
+-- if that is wanted (PS3.18 section 10.6.3).
+abbrev pub found_reply : Wish → ShownPage → List ElementList → Reply
+found_reply wish page [] = if wish.wants_array then search_reply wish status.Done (codes "[]") false
+    else search_reply wish status.NoContent [] false
+found_reply wish page (answer ∷ answers) = search_reply wish status.Done (array_text (answer ∷ answers))
+    (is_full page (length (answer ∷ answers)))
 
 -- ---- counts
 
@@ -165,12 +179,13 @@ done_reply request = server_reply
 abbrev pub IsMetricsReply : Reply → Type 0
 IsMetricsReply reply =
     (reply.status ≡ status.Done) × (reply.kind ≡ kind.Metrics) × (reply.is_literal ≡ false)
+    × (reply.has_unknown ≡ false) × (reply.is_full ≡ false)
 
 -- The response to what is asked, by what was answered. The server answers to no request what is not of its kind.
 abbrev pub IsReplyBy : Request → Wish → Response → List Institution → Reply → Type 0
 IsReplyBy request wish (told.Refused why) institutions reply = reply ≡ cause_reply why
 IsReplyBy request wish told.Done institutions reply = reply ≡ done_reply request
-IsReplyBy (ask.Search search) wish (told.Found answers) institutions reply = reply ≡ found_reply wish answers
+IsReplyBy (ask.Search search) wish (told.Found answers) institutions reply = reply ≡ found_reply wish search.page answers
 IsReplyBy (ask.Counts name) wish (told.Counted counted) institutions reply =
     reply ≡ counts_reply name counted institutions
 IsReplyBy ask.Report wish (told.Counted counted) institutions reply = IsMetricsReply reply

@@ -1,17 +1,20 @@
 -- What requests of HTTP ask of the server.
 use Rattle.std.specs.Prelude.{◌≡◌, ◌⊎◌, ◌==◌, ℕ, ◌++◌, ◌&&◌, ◌||◌, not, nat_le, Bool, true, false, IsTrue, List, [], ◌∷◌, length, filter, codes, string_bytes, Option, Some, is_some, option_copied}
 use Rattle.std.specs.List.{list_all, list_any, slice_split, starts_with}
+use Rattle.std.specs.Option.{option_and_then}
 use Rattle.std.specs.Str.{bytes_eq}
 use Rattle.percent_encoding.specs.Percent.{percent_decode}
 use Rattle.dq_vr.specs.declared.Tag.{Tag}
 use Rattle.dq_vr.specs.declared.tags.TheConstants.{STUDY_INSTANCE_UID, SERIES_INSTANCE_UID}
+use Rattle.dq_vr.specs.Dictionary.{known_vr}
+use Rattle.dq_json.specs.Keywords.{tag_named}
 use Rattle.dq_request.specs.declared.request.Request.{Request}
 use Rattle.dq_request.specs.declared.request.Request.TheVariants as ask
 use Rattle.dq_request.specs.declared.search.Key.{Key}
 use Rattle.dq_request.specs.declared.search.Search.{Search}
 use Rattle.dq_request.specs.declared.search.Subject.{Subject}
 use Rattle.dq_request.specs.declared.search.Subject.TheVariants as subject
-use Rattle.dq_request.specs.Searches.{TakesWords, StopsAt}
+use Rattle.dq_request.specs.Searches.{TakesWords, StopsAt, name_in}
 use Rattle.dq_web.specs.declared.cutting.Fields.{Fields}
 use Rattle.dq_web.specs.declared.cutting.Head.{Head}
 use Rattle.dq_web.specs.declared.cutting.HttpRequest.{HttpRequest}
@@ -73,11 +76,24 @@ owner_of place = codes "*"
 
 -- ---- searches
 
--- a part of a query that says nothing here (PS3.18 section 8.3.4): all attributes are answered, and no matching
+-- a part of a query that asks for no search (PS3.18 section 8.3.4): all attributes are answered, and no matching
 -- is fuzzy
-abbrev pub is_left_out : List ℕ → Bool
-is_left_out part = (length part == 0) || starts_with ◌==◌ part (codes "includefield=")
+abbrev pub is_silent : List ℕ → Bool
+is_silent part = (length part == 0) || starts_with ◌==◌ part (codes "includefield=")
     || starts_with ◌==◌ part (codes "fuzzymatching=")
+
+-- it names an attribute of the dictionary
+abbrev pub is_attribute : List ℕ → Bool
+is_attribute name = is_some (option_and_then known_vr (tag_named name))
+
+-- it names neither an attribute nor the page
+abbrev pub is_unknown : List ℕ → Bool
+is_unknown part = not (is_silent part) && not (bytes_eq (name_in part) (codes "limit"))
+    && not (bytes_eq (name_in part) (codes "offset")) && not (is_attribute (name_in part))
+
+-- a part that no search comes of; one that is unknown is passed over, and the response says so
+abbrev pub is_left_out : List ℕ → Bool
+is_left_out part = is_silent part || is_unknown part
 
 -- the parts of a query
 abbrev pub parts_of : List ℕ → List (List ℕ)
@@ -249,10 +265,13 @@ abbrev pub is_fuzzy : List ℕ → Bool
 is_fuzzy part = bytes_eq part (codes "fuzzymatching=true")
 
 -- how the answers to a search are wanted: where none is found an empty array, in place of no content, where
--- DICOM JSON is asked for by its name; and whether fuzzy matching is
+-- DICOM JSON is asked for by its name; whether fuzzy matching is; and whether a parameter is unknown
 abbrev pub wish_of : Fields → List ℕ → Wish
-wish_of fields query =
-    record { wants_array = fields.asks_dicom_json; is_fuzzy = list_any is_fuzzy (parts_of query) }
+wish_of fields query = record {
+  wants_array = fields.asks_dicom_json;
+  is_fuzzy = list_any is_fuzzy (parts_of query);
+  has_unknown = list_any is_unknown (parts_of query);
+}
 
 -- A request of HTTP asks a question: it is let in, its key opens the place, its path, method, query and body say what
 -- is asked, and JSON is accepted where a search is.

@@ -11,7 +11,7 @@ use Rattle.dq_web.specs.declared.replies.Kind.{Kind}
 use Rattle.dq_web.specs.declared.replies.Kind.TheVariants as kind
 use Rattle.dq_web.specs.declared.replies.Reply.{Reply}
 use Rattle.dq_web.specs.declared.status.Status.{Status}
-use Rattle.dq_web.specs.declared.status.Status.TheVariants.{Done, Created, NoContent, BadRequest, Unauthorized, Forbidden, NotFound, MethodNotAllowed, NotAcceptable, Conflict, TooLarge, Misdirected, HeadTooLarge, ServerError, NotImplemented, Unavailable, Full}
+use Rattle.dq_web.specs.declared.status.Status.TheVariants.{Done, Created, NoContent, BadRequest, Unauthorized, Forbidden, NotFound, MethodNotAllowed, NotAcceptable, RequestTimeout, Conflict, TooLarge, Misdirected, HeadTooLarge, ServerError, NotImplemented, Unavailable, Full}
 
 -- the status code and the reason phrase (RFC 9110 section 15; of 507 RFC 4918 section 11.5)
 abbrev pub status_line : Status → List ℕ
@@ -24,6 +24,7 @@ status_line Forbidden = codes "403 Forbidden"
 status_line NotFound = codes "404 Not Found"
 status_line (MethodNotAllowed methods) = codes "405 Method Not Allowed"
 status_line NotAcceptable = codes "406 Not Acceptable"
+status_line RequestTimeout = codes "408 Request Timeout"
 status_line Conflict = codes "409 Conflict"
 status_line TooLarge = codes "413 Content Too Large"
 status_line Misdirected = codes "421 Misdirected Request"
@@ -46,6 +47,7 @@ refusal_status (refusal.Method methods) = MethodNotAllowed methods
 refusal_status refusal.Key = Unauthorized
 refusal_status refusal.Accept = NotAcceptable
 refusal_status refusal.Unsupported = NotImplemented
+refusal_status refusal.Time = RequestTimeout
 
 -- the word for a refusal of the front
 abbrev pub refusal_word : Refusal → List ℕ
@@ -60,6 +62,7 @@ refusal_word (refusal.Method methods) = codes "method"
 refusal_word refusal.Key = codes "key"
 refusal_word refusal.Accept = codes "accept"
 refusal_word refusal.Unsupported = codes "unsupported"
+refusal_word refusal.Time = codes "time"
 
 -- the status code alone
 abbrev pub status_code : Status → ℕ
@@ -72,6 +75,7 @@ status_code Forbidden = 403
 status_code NotFound = 404
 status_code (MethodNotAllowed methods) = 405
 status_code NotAcceptable = 406
+status_code RequestTimeout = 408
 status_code Conflict = 409
 status_code TooLarge = 413
 status_code Misdirected = 421
@@ -146,14 +150,29 @@ date_field None = []
 date_field (Some date) = codes "Date: " ++ (date_text date ++ line_end)
 
 -- fuzzy matching was asked for, and there is none (PS3.18 section 8.3.4.2)
-abbrev pub warning_field : Bool → List ℕ
-warning_field true = codes "Warning: 299 newtiron \"The fuzzymatching parameter is not supported. "
+abbrev pub literal_field : Bool → List ℕ
+literal_field true = codes "Warning: 299 newtiron \"The fuzzymatching parameter is not supported. "
     ++ codes "Only literal matching has been performed.\"\r\n"
-warning_field false = []
+literal_field false = []
+
+-- a parameter was passed over
+abbrev pub unknown_field : Bool → List ℕ
+unknown_field true = codes "Warning: 299 newtiron \"An unknown parameter was ignored.\"\r\n"
+unknown_field false = []
+
+-- there may be more than the page (PS3.18 section 8.3.4.4)
+abbrev pub full_field : Bool → List ℕ
+full_field true =
+    codes "Warning: 299 newtiron \"The page is full. Additional results can be requested by offset.\"\r\n"
+full_field false = []
+
+abbrev pub warning_fields : Reply → List ℕ
+warning_fields reply =
+    literal_field reply.is_literal ++ unknown_field reply.has_unknown ++ full_field reply.is_full
 
 abbrev pub whole_head_text : Reply → Framing → List ℕ
 whole_head_text reply framing = head_text reply.status ++ date_field framing.date
-    ++ closing_field framing.is_last ++ warning_field reply.is_literal
+    ++ closing_field framing.is_last ++ warning_fields reply
     ++ body_fields reply.status reply.kind (length reply.body) ++ line_end
 
 -- a response to HEAD is that to GET without its content (RFC 9110 section 9.3.2)

@@ -1,7 +1,7 @@
 //! Responses: what the server answered, and what the front answers by itself.
 ghost use Rattle.std.specs.Prelude.{◌≡◌, ◌++◌, [], flat_map, codes, find, option_copied, IfOk, OnOk};
 ghost use Rattle.std.specs.Str.{bytes_eq};
-ghost use Rattle.dq_web.specs.Answers.{plain, escaped_octet, escaped, refused_reply, misspelled_reply, server_reply, order_status, search_status, copy_status, cause_status, cause_reply, behind_comma, array_text, array_reply, found_reply, limit_text, study_counts_text, step_counts_text, counts_text, is_named_so, is_counted_of, counts_reply, done_reply, IsMetricsReply, IsReplyTo, IsResponse, IsWritten, refusal_reply, document_reply, health_reply};
+ghost use Rattle.dq_web.specs.Answers.{plain, escaped_octet, escaped, refused_reply, misspelled_reply, server_reply, order_status, search_status, copy_status, cause_status, cause_reply, behind_comma, array_text, is_full, search_reply, found_reply, limit_text, study_counts_text, step_counts_text, counts_text, is_named_so, is_counted_of, counts_reply, done_reply, IsMetricsReply, IsReplyTo, IsResponse, IsWritten, refusal_reply, document_reply, health_reply};
 
 use crate::asking::{Document, Question, Wish};
 use crate::counters::Counters;
@@ -14,7 +14,7 @@ use dq_config::Institution;
 use dq_dataset::DataSet;
 use dq_json::json_of;
 use dq_list::Listed;
-use dq_request::{Cause, Counted, Counts, Request, Response, Uncopied};
+use dq_request::{Cause, Counted, Counts, Request, Response, ShownPage, Uncopied};
 use std::alloc::{AllocError, Global};
 
 pub(crate) const STUDIES: &str = "{\"studies\":{\"kept\":";
@@ -31,6 +31,9 @@ pub(crate) const LIMIT: &str = ",\"limit\":";
 
 pub(crate) const CLOSE: &str = "}}";
 
+/// The most answers of a page.
+const LONGEST_PAGE: usize = 1000;
+
 /// A response with a body.
 fn plain(status: Status, kind: Kind, body: Vec<u8>) -> Reply
     ensures { result ≡ plain status kind body.items }
@@ -40,6 +43,8 @@ fn plain(status: Status, kind: Kind, body: Vec<u8>) -> Reply
         kind,
         body: Listed::from_inner(body),
         is_literal: false,
+        has_unknown: false,
+        is_full: false,
     }
 }
 
@@ -175,31 +180,43 @@ fn array_of(alloc: Global, answers: &[DataSet]) -> Result<Vec<u8>, AllocError>
     Ok(body)
 }
 
-/// The response with the array of the answers, and that matching was not fuzzy where that was wanted.
-fn array_reply(alloc: Global, is_literal: bool, answers: &[DataSet]) -> Result<Reply, AllocError>
-    ensures { IfOk result (λ reply. reply ≡ array_reply is_literal answers.now) }
+/// Whether a page has as many answers as it may have, so that there may be more.
+fn is_full(page: ShownPage, count: usize) -> bool
+    ensures { result ≡ is_full page count }
 {
-    Ok(Reply {
-        status: Status::Done,
-        kind: Kind::DicomJson,
-        body: Listed::from_inner(array_of(alloc, answers)?),
-        is_literal,
-    })
+    count > 0 && (count >= page.limit || count >= LONGEST_PAGE)
 }
 
-/// The response to a search.
-fn found_reply(alloc: Global, wish: Wish, answers: &[DataSet]) -> Result<Reply, AllocError>
-    ensures { IfOk result (λ reply. reply ≡ found_reply wish answers.now) }
+/// A response to a search.
+fn search_reply(wish: Wish, status: Status, body: Vec<u8>, is_full: bool) -> Reply
+    ensures { result ≡ search_reply wish status body.items is_full }
+{
+    Reply {
+        status,
+        kind: Kind::DicomJson,
+        body: Listed::from_inner(body),
+        is_literal: wish.is_fuzzy,
+        has_unknown: wish.has_unknown,
+        is_full,
+    }
+}
+
+/// The response to a search for a page that found these answers.
+fn found_reply(
+    alloc: Global,
+    wish: Wish,
+    page: ShownPage,
+    answers: &[DataSet],
+) -> Result<Reply, AllocError>
+    ensures { IfOk result (λ reply. reply ≡ found_reply wish page answers.now) }
 {
     if answers.is_empty() && !wish.wants_array {
-        return Ok(Reply {
-            status: Status::NoContent,
-            kind: Kind::DicomJson,
-            body: Listed::empty(alloc),
-            is_literal: wish.is_fuzzy,
-        });
+        let body = Vec::new(alloc);
+        return Ok(search_reply(wish, Status::NoContent, body, false));
     }
-    array_reply(alloc, wish.is_fuzzy, answers)
+    let body = array_of(alloc, answers)?;
+    let is_full = is_full(page, answers.len());
+    Ok(search_reply(wish, Status::Done, body, is_full))
 }
 
 /// Adds the limit of a kind.
@@ -339,8 +356,8 @@ fn reply_to(
     match (&question.asked, response) {
         (_, Response::Refused(cause)) => cause_reply(alloc, *cause),
         (asked, Response::Done) => done_reply(alloc, asked),
-        (Request::Search(_), Response::Found(answers)) => {
-            found_reply(alloc, question.wish, answers.as_slice())
+        (Request::Search(search), Response::Found(answers)) => {
+            found_reply(alloc, question.wish, search.page, answers.as_slice())
         }
         (Request::Counts(name), Response::Counted(counted)) => {
             counts_reply(alloc, name.as_slice(), counted.as_slice(), institutions)

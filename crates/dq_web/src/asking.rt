@@ -3,8 +3,8 @@ ghost use Rattle.std.specs.Prelude.{◌≡◌, ◌==◌, ◌++◌, ◌∷◌, []
 ghost use Rattle.std.specs.List.{list_all, list_any, starts_with};
 ghost use Rattle.std.specs.Str.{bytes_eq};
 ghost use Rattle.percent_encoding.specs.Percent.{percent_decode};
-ghost use Rattle.dq_request.specs.Searches.{TakesWords, StopsAt};
-ghost use Rattle.dq_web.specs.Asking.{is_visible, is_printable, is_left_out, parts_of, words_among, words_in, uid_key, hundred_of, series_of, images_of, IsSearchAt, owner_of, IsPathAndQuery, IsTarget, IsMethod, IsLooked, IsBackup, Posting, Deleting, IsWanted, has_no_slash, is_plain_segment, is_plain_path, is_page, IsLetIn, IsJudged, is_fuzzy, wish_of, IsAsked};
+ghost use Rattle.dq_request.specs.Searches.{TakesWords, StopsAt, name_in};
+ghost use Rattle.dq_web.specs.Asking.{is_visible, is_printable, is_silent, is_attribute, is_unknown, is_left_out, parts_of, words_among, words_in, uid_key, hundred_of, series_of, images_of, IsSearchAt, owner_of, IsPathAndQuery, IsTarget, IsMethod, IsLooked, IsBackup, Posting, Deleting, IsWanted, has_no_slash, is_plain_segment, is_plain_path, is_page, IsLetIn, IsJudged, is_fuzzy, wish_of, IsAsked};
 
 use crate::cutting::{Fields, Head, HttpRequest};
 use crate::guard::Guard;
@@ -12,9 +12,10 @@ use crate::keys::OPERATOR;
 use crate::places::{Place, at_slash, behind, place_of};
 use crate::refusal::{Allowed, Refusal};
 use crate::replies::Framing;
+use dq_json::tag_named;
 use dq_list::Listed;
 use dq_request::{Request, Search, Subject};
-use dq_vr::{Tag, tags};
+use dq_vr::{Tag, lookup, tags};
 use percent_encoding::percent_decode;
 use std::alloc::{AllocError, Global};
 
@@ -28,6 +29,8 @@ pub struct Wish {
     pub wants_array: bool,
     /// Whether matching is to be fuzzy, which none is.
     pub is_fuzzy: bool,
+    /// Whether a parameter is unknown, and was passed over.
+    pub has_unknown: bool,
 }
 
 /// What is asked of the server, and how its response is sent back.
@@ -292,15 +295,48 @@ pub(crate) fn begins(text: &str, word: &str) -> bool
     text.starts_with(word)
 }
 
-/// Whether a part of a query says nothing here: which attributes are asked for, since all are
-/// answered, and fuzzy matching, which there is none of.
-fn is_left_out(part: &str) -> bool
-    ensures { result ≡ is_left_out part.now }
+/// Whether a part of a query asks for no search: it is empty, or it says which attributes are asked
+/// for, since all are answered, or that matching is fuzzy, which none is.
+fn is_silent(part: &str) -> bool
+    ensures { result ≡ is_silent part.now }
 {
     part.is_empty() || begins(part, "includefield=") || begins(part, "fuzzymatching=")
 }
 
-/// Takes a part of a query as a word of a search, unless it says nothing here. The answer is whether
+/// The name of a part of a query, before the first equals sign.
+fn name_in(part: &str) -> &str
+    ensures { result.now ≡ name_in part.now }
+{
+    match part.split_once('=') {
+        Some((name, _)) => name,
+        None => part,
+    }
+}
+
+fn is_attribute(name: &str) -> bool
+    ensures { result ≡ is_attribute name.now }
+{
+    match tag_named(name) {
+        Some(tag) => lookup(tag).is_some(),
+        None => false,
+    }
+}
+
+/// Whether a part of a query names neither an attribute nor the page.
+fn is_unknown(part: &str) -> bool
+    ensures { result ≡ is_unknown part.now }
+{
+    let name = name_in(part);
+    !is_silent(part) && name != "limit" && name != "offset" && !is_attribute(name)
+}
+
+fn is_left_out(part: &str) -> bool
+    ensures { result ≡ is_left_out part.now }
+{
+    is_silent(part) || is_unknown(part)
+}
+
+/// Takes a part of a query as a word of a search, unless it is left out. The answer is whether
 /// the search goes on.
 fn take_part(alloc: Global, search: &mut Search, part: &str) -> Result<bool, AllocError>
     ensures { IfOk result (λ is_taken. MatchBool is_taken
@@ -349,6 +385,17 @@ fn asks_fuzzy(query: &str) -> bool
     is_asked
 }
 
+/// Whether a query has a parameter that is unknown.
+fn has_unknown(query: &str) -> bool
+    ensures { result ≡ list_any is_unknown (parts_of query.now) }
+{
+    let mut is_found = false;
+    for part in query.split('&') {
+        is_found = is_found || is_unknown(part);
+    }
+    is_found
+}
+
 /// How the answers to a search are wanted.
 fn wish_of(fields: &Fields<'_>, query: &str) -> Wish
     ensures { result ≡ wish_of fields.now query.now }
@@ -356,6 +403,7 @@ fn wish_of(fields: &Fields<'_>, query: &str) -> Wish
     Wish {
         wants_array: fields.asks_dicom_json,
         is_fuzzy: asks_fuzzy(query),
+        has_unknown: has_unknown(query),
     }
 }
 

@@ -36,6 +36,8 @@ pub enum Refusal {
     Accept,
     /// The search is not supported.
     Unsupported,
+    /// The head or the body did not come in the time that it has.
+    Time,
 }
 
 impl Allowed {
@@ -67,6 +69,7 @@ impl Refusal {
             Refusal::Key => "key",
             Refusal::Accept => "accept",
             Refusal::Unsupported => "unsupported",
+            Refusal::Time => "time",
         }
     }
 }

@@ -1,7 +1,7 @@
 //! Responses as octets (RFC 9112 section 2.1).
 ghost use Rattle.std.specs.Prelude.{◌≡◌, ◌++◌, length, IfOk, OnOk};
 ghost use Rattle.std.specs.Fmt.{decimal};
-ghost use Rattle.dq_web.specs.Responses.{content_type, extra_fields, has_content, guarding_fields, closing_field, date_field, warning_field, content, type_field, length_field, body_fields, head_text, whole_head_text};
+ghost use Rattle.dq_web.specs.Responses.{content_type, extra_fields, has_content, guarding_fields, closing_field, date_field, literal_field, unknown_field, full_field, warning_fields, content, type_field, length_field, body_fields, head_text, whole_head_text};
 ghost use Rattle.dq_web.specs.Answers.{IsWritten};
 
 use crate::refusal::Allowed;
@@ -30,6 +30,10 @@ pub struct Reply {
     pub body: Listed<u8>,
     /// Whether fuzzy matching was asked for, of which there is none.
     pub is_literal: bool,
+    /// Whether a parameter was unknown, and passed over.
+    pub has_unknown: bool,
+    /// Whether its page is full, so that there may be more.
+    pub is_full: bool,
 }
 
 /// A response as octets, and its status.
@@ -185,8 +189,8 @@ fn put_date(head: &mut Vec<u8>, date: Option<HttpDate>) -> Result<(), AllocError
 }
 
 /// The field that says that matching was not fuzzy.
-fn warning_field(is_literal: bool) -> &'static str
-    ensures { result.now ≡ warning_field is_literal }
+fn literal_field(is_literal: bool) -> &'static str
+    ensures { result.now ≡ literal_field is_literal }
 {
     if is_literal {
         "Warning: 299 newtiron \"The fuzzymatching parameter is not supported. \
@@ -196,6 +200,38 @@ fn warning_field(is_literal: bool) -> &'static str
     }
 }
 
+/// The field that says that a parameter was passed over.
+fn unknown_field(has_unknown: bool) -> &'static str
+    ensures { result.now ≡ unknown_field has_unknown }
+{
+    if has_unknown {
+        "Warning: 299 newtiron \"An unknown parameter was ignored.\"\r\n"
+    } else {
+        ""
+    }
+}
+
+/// The field that says that there may be more than the page.
+fn full_field(is_full: bool) -> &'static str
+    ensures { result.now ≡ full_field is_full }
+{
+    if is_full {
+        "Warning: 299 newtiron \"The page is full. Additional results can be requested by offset.\"\r\n"
+    } else {
+        ""
+    }
+}
+
+/// Adds what is warned of.
+fn put_warnings(head: &mut Vec<u8>, reply: &Reply) -> Result<(), AllocError>
+    ensures { OnOk result (head.new.items ≡ head.old.items ++ warning_fields reply.now) }
+{
+    put(head, literal_field(reply.is_literal))?;
+    put(head, unknown_field(reply.has_unknown))?;
+    put(head, full_field(reply.is_full))?;
+    Ok(())
+}
+
 /// The whole head of a response.
 fn head_of(alloc: Global, reply: &Reply, framing: Framing) -> Result<Vec<u8>, AllocError>
     ensures { IfOk result (λ head. head.items ≡ whole_head_text reply.now framing) }
@@ -203,7 +239,7 @@ fn head_of(alloc: Global, reply: &Reply, framing: Framing) -> Result<Vec<u8>, Al
     let mut head = head_start(alloc, reply.status)?;
     put_date(&mut head, framing.date)?;
     put(&mut head, closing_field(framing.is_last))?;
-    put(&mut head, warning_field(reply.is_literal))?;
+    put_warnings(&mut head, reply)?;
     put_body_fields(alloc, &mut head, reply)?;
     put(&mut head, "\r\n")?;
     Ok(head)

@@ -16,6 +16,7 @@ pub enum Status {
     NotFound,
     MethodNotAllowed(Allowed),
     NotAcceptable,
+    RequestTimeout,
     Conflict,
     TooLarge,
     Misdirected,
@@ -41,6 +42,7 @@ impl Status {
             Status::NotFound => 404,
             Status::MethodNotAllowed(_) => 405,
             Status::NotAcceptable => 406,
+            Status::RequestTimeout => 408,
             Status::Conflict => 409,
             Status::TooLarge => 413,
             Status::Misdirected => 421,
@@ -66,6 +68,7 @@ impl Status {
             Status::NotFound => "404 Not Found",
             Status::MethodNotAllowed(_) => "405 Method Not Allowed",
             Status::NotAcceptable => "406 Not Acceptable",
+            Status::RequestTimeout => "408 Request Timeout",
             Status::Conflict => "409 Conflict",
             Status::TooLarge => "413 Content Too Large",
             Status::Misdirected => "421 Misdirected Request",
@@ -93,6 +96,7 @@ impl Status {
             Refusal::Key => Status::Unauthorized,
             Refusal::Accept => Status::NotAcceptable,
             Refusal::Unsupported => Status::NotImplemented,
+            Refusal::Time => Status::RequestTimeout,
         }
     }
 }

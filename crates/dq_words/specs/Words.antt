@@ -42,12 +42,13 @@ pub record Request : Type 0 where
   pub place : RowsPlace
 
 -- Where requests of the web front come in: a port of an address; the host that a proxy before it is
--- called by, if one is named; and the file of its keys.
+-- called by, if one is named; the file of its keys; and how many connections may come of one address, 0 any number.
 pub record WebFront : Type 0 where
   pub port : ℕ
   pub address : List ℕ
   pub host : Option (List ℕ)
   pub keys : List ℕ
+  pub peer_connections : ℕ
 
 -- The port and the address where connections come in; for how many seconds ARTIM runs (PS3.8 section
 -- 9.1.5), 0 for ever; after how many seconds of silence a connection counts as ended, if it does; how
@@ -157,6 +158,10 @@ artim_seconds = 30
 abbrev pub no_peer_limit : ℕ
 no_peer_limit = 0
 
+-- how many connections of one address may come to the web front where no number is named
+abbrev pub web_peer_limit : ℕ
+web_peer_limit = 16
+
 -- what a subcommand asks for with its options
 abbrev pub subcommand_request : Option (Text × List Row) → Option Request
 subcommand_request subcommand = option_map (λ place. record {
@@ -168,23 +173,26 @@ subcommand_request subcommand = option_map (λ place. record {
 -- The web front that the options name: its port and its keys, or neither, and then no more of it. None
 -- where they go not together, or the port is none.
 abbrev pub web_by_options : Option (List ℕ) → Option (List ℕ) → Option (List ℕ) → Option (List ℕ)
-    → Option (Option WebFront)
-web_by_options (Some port) (Some keys) address host = option_map (λ number. Some (record {
+    → Option ℕ → Option (Option WebFront)
+web_by_options (Some port) (Some keys) address host peers = option_map (λ number. Some (record {
   port = number;
   address = unwrap_or address loopback_address;
   host = host;
   keys = keys;
+  peer_connections = unwrap_or peers web_peer_limit;
 })) (port_told port)
-web_by_options (Some port) None address host = None
-web_by_options None (Some keys) address host = None
-web_by_options None None None None = Some None
-web_by_options None None (Some address) host = None
-web_by_options None None None (Some host) = None
+web_by_options (Some port) None address host peers = None
+web_by_options None (Some keys) address host peers = None
+web_by_options None None None None None = Some None
+web_by_options None None (Some address) host peers = None
+web_by_options None None None (Some host) peers = None
+web_by_options None None None None (Some peers) = None
 
 abbrev pub web_named : Option (Text × List Row) → Option (Option WebFront)
-web_named subcommand = web_by_options (value_in (codes "web") subcommand)
+web_named subcommand = option_and_then (web_by_options (value_in (codes "web") subcommand)
     (value_in (codes "web-keys") subcommand) (value_in (codes "web-listen") subcommand)
-    (value_in (codes "web-host") subcommand)
+    (value_in (codes "web-host") subcommand))
+    (told_if_given number_told (value_in (codes "web-peer-connections") subcommand))
 
 -- The file by which callers come in that are no associations: the path of the console, or the keys of the
 -- web front.
@@ -305,6 +313,7 @@ web_front_in web = record {
   address = web.address.now;
   host = option_copied web.host;
   keys = web.keys.now;
+  peer_connections = web.peer_connections;
 }
 
 abbrev pub serving_in : Service → Serving

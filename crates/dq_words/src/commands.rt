@@ -161,7 +161,14 @@ fn web_command<'a>(alloc: Global) -> Result<Command<'a>, AllocError>
         "HOST",
         "The host that a proxy before it is called by",
     );
-    let fronted = listening.arg(host)?;
+    let hosted = listening.arg(host)?;
+    let peers = value_option(
+        alloc,
+        "web-peer-connections",
+        "N",
+        "Closes a connection to it at once when N of its address are there; 0 is no limit [default: 16]",
+    );
+    let fronted = hosted.arg(peers)?;
     Ok(fronted)
 }
 

@@ -21,6 +21,9 @@ const ARTIM_SECONDS: u32 = 30;
 /// The number that stands for any number of connections of one address.
 const NO_PEER_LIMIT: u32 = 0;
 
+/// How many connections of one address may come to the web front where no number is named.
+const WEB_PEERS: u32 = 16;
+
 /// Why options are not taken.
 #[derive(Clone, Copy, PartialEq, Eq)]
 pub(crate) enum Misuse {
@@ -42,6 +45,8 @@ pub(crate) enum Misuse {
     NoConfig,
     /// The port of the web front is none, or only one of its port and its keys is named.
     NoWeb,
+    /// The number of connections of one address to the web front is none.
+    NoWebPeers,
     /// The store or the institution of an export is not named.
     NoInstitution,
     /// The word for a kind of rows is none.
@@ -202,6 +207,7 @@ fn web_in<'a>(matches: &ArgMatches<'a>) -> Result<Option<Web<'a>>, Misuse>
 {
     let address = value_in(matches, "web-listen");
     let host = value_in(matches, "web-host");
+    let peers = number_in(matches, "web-peer-connections", Misuse::NoWebPeers)?;
     match (value_in(matches, "web"), value_in(matches, "web-keys")) {
         (Some(text), Some(keys)) => match port_told(text) {
             Some(port) => Ok(Some(Web {
@@ -209,11 +215,12 @@ fn web_in<'a>(matches: &ArgMatches<'a>) -> Result<Option<Web<'a>>, Misuse>
                 address: address.unwrap_or(LOOPBACK_ADDRESS),
                 host,
                 keys,
+                peer_connections: peers.unwrap_or(WEB_PEERS),
             })),
             None => Err(Misuse::NoWeb),
         },
-        (None, None) => match (address, host) {
-            (None, None) => Ok(None),
+        (None, None) => match (address, host, peers) {
+            (None, None, None) => Ok(None),
             _ => Err(Misuse::NoWeb),
         },
         _ => Err(Misuse::NoWeb),
@@ -392,6 +399,10 @@ pub(crate) fn reproach(misuse: Misuse) -> (ErrorKind, &'static str) {
         Misuse::NoWeb => (
             ErrorKind::ValueValidation,
             "the arguments '--web <PORT>', from 1 to 65535, and '--web-keys <FILE>' go together",
+        ),
+        Misuse::NoWebPeers => (
+            ErrorKind::ValueValidation,
+            "the argument '--web-peer-connections <N>' takes a number from 0 to 4294967295",
         ),
         Misuse::NoInstitution => (
             ErrorKind::MissingRequiredArgument,

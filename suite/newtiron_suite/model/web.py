@@ -37,6 +37,10 @@ OPERATORS = {"/metrics": "GET", "/backup": "POST"}
 # What a response says where fuzzy matching was asked for (PS3.18 section 8.3.4.2).
 LITERAL = ('299 newtiron "The fuzzymatching parameter is not supported. Only literal matching has '
            'been performed."')
+# The same where a parameter is unknown, which is passed over.
+IGNORED = '299 newtiron "An unknown parameter was ignored."'
+# The same where a page has as many answers as it may have.
+FULL = '299 newtiron "The page is full. Additional results can be requested by offset."'
 # The statuses of the refusals of orders.
 REFUSED_ORDERS = {1: 400, 2: 400, 3: 409, 4: 507, 5: 404, 6: 404}
 
@@ -68,7 +72,24 @@ def value_of(vr: str, text: str) -> bytes | None:
         return int(text).to_bytes(2, "little")
     if text and vr not in data_sets.TEXT | {"UI"} or len(octets) > LONGEST_VALUE:
         return None
+    if vr == "UI":
+        # a list of UIDs may have commas (PS3.18 section 8.3.4.1)
+        octets = octets.replace(b",", b"\\")
     return data_sets.padded(vr, octets)
+
+
+def tag_of(name: str) -> Any:
+    """The tag of the dictionary that a parameter names; None where it names none."""
+    numbers = json_objects.tag_text(name.encode())
+    tag: Any = None if numbers == "-" else tuple(map(int, numbers.split()))
+    return tag if tag in DICTIONARY else None
+
+
+def is_unknown(part: str) -> bool:
+    """Whether a part of a query names neither an attribute nor the page, and says nothing else."""
+    name = part.partition("=")[0]
+    return bool(part) and not part.startswith(LEFT_OUT) and name not in ("limit", "offset") \
+        and tag_of(name) is None
 
 
 def words_of(text: str, has_keys: bool) -> tuple[dict[tuple[int, int], bytes], dict[str, int]]:
@@ -76,15 +97,14 @@ def words_of(text: str, has_keys: bool) -> tuple[dict[tuple[int, int], bytes], d
     the offset."""
     keys, page = {}, {"limit": USUAL_PAGE, "offset": 0}
     for part in filter(None, text.split("&")):
-        if part.startswith(LEFT_OUT):
+        if part.startswith(LEFT_OUT) or is_unknown(part):
             continue
         name, equals, value = part.partition("=")
         if name in page and re.fullmatch(r"\+?[0-9]+", value) and int(value) < 2 ** 64:
             page[name] = int(value)
             continue
-        numbers = json_objects.tag_text(name.encode())
-        tag: Any = None if numbers == "-" else tuple(map(int, numbers.split()))
-        octets = value_of(DICTIONARY[tag], value) if equals and tag in DICTIONARY else None
+        tag = tag_of(name)
+        octets = value_of(DICTIONARY[tag], value) if equals and tag is not None else None
         if octets is None or not has_keys:
             raise BadWord(part)
         keys.setdefault(tag, octets)
@@ -130,8 +150,11 @@ def answered(records: Records, subject: str, text: str,
         return refused(400, f"keyword {bad.args[0]}")
     if status:
         return refused(413 if status == services.OUT_OF_RESOURCES else 400, f"{status:04X}")
-    return Answer(200, DICOM_JSON,
-                  f"[{','.join(map(json_of, found))}]".encode()) if found else Answer(204)
+    if not found:
+        return Answer(204)
+    limit = words_of(text, subject != "steps")[1]["limit"]
+    return Answer(200, DICOM_JSON, f"[{','.join(map(json_of, found))}]".encode(),
+                  {"Warning": FULL} if len(found) == min(limit, LONGEST_PAGE) else {})
 
 
 def counted(institution: Institution) -> dict[str, dict[str, int]]:
@@ -270,7 +293,10 @@ class Front:
         uids = zip((services.STUDY, services.SERIES), words)
         answer = answered(records, subject, query,
                           {tag: data_sets.padded("UI", uid.encode()) for tag, uid in uids})
-        if answer.status in (200, 204) and "fuzzymatching=true" in query.split("&"):
-            answer.fields["Warning"] = LITERAL
+        parts = query.split("&")
+        warnings = [LITERAL] * ("fuzzymatching=true" in parts) + [IGNORED] * any(
+            map(is_unknown, parts)) + [FULL] * ("Warning" in answer.fields)
+        if answer.status in (200, 204) and warnings:
+            answer.fields["Warning"] = ", ".join(warnings)
         return Answer(200, DICOM_JSON, b"[]",
                       answer.fields) if answer.status == 204 and DICOM_JSON in ranges else answer

@@ -16,6 +16,8 @@
     grammar     requests that are none, that are too long, that come in pieces or many at once;
                 100-continue, and HTTP/1.0
     slow        clients that say nothing or read nothing: others are served beside them
+    late        heads and bodies that do not come in their time
+    crowd       more connections of one address than it may have
     many        100 connections
     metrics     each line of the metrics, and what they count
     backup      the operator's backup, and its refusals
@@ -38,7 +40,7 @@ import sys
 from ..tally import Part, play_parts
 from .entries import entries, looks
 from .keys import keys
-from .loads import many, slow
+from .loads import crowd, late, many, slow
 from .operator import backup, curl, log, metrics
 from .others import nginx, orthanc
 from .page import browser, items, lists, page, picture
@@ -48,7 +50,7 @@ from .searches import hospitals, searches
 PARTS: dict[str, Part] = {
     "page": page, "keys": keys, "hospitals": hospitals, "searches": searches, "entries": entries,
     "looks": looks, "methods": methods, "hosts": hosts, "grammar": grammar, "slow": slow,
-    "many": many, "metrics": metrics, "backup": backup, "log": log, "curl": curl, "lists": lists,
+    "late": late, "crowd": crowd, "many": many, "metrics": metrics, "backup": backup, "log": log, "curl": curl, "lists": lists,
     "items": items, "browser": browser, "orthanc": orthanc, "nginx": nginx,
 }
 

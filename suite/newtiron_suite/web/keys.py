@@ -121,6 +121,9 @@ def key_files(tally: Tally, folder: pathlib.Path) -> None:
             ("port 65536", 1, ["--web", 65536, *keyed]),
             ("an address without a port", 1, ["--web-listen", HOST]),
             ("a host without a port", 1, ["--web-host", "localhost"]),
+            ("a number of connections without a port", 1, ["--web-peer-connections", 1]),
+            ("a number of connections that is none", 1,
+             ["--web", free_port(), *keyed, "--web-peer-connections", "-1"]),
             ("keys twice", 1, ["--web", free_port(), *keyed, *keyed])):
         done = started(words)
         is_told = done[2] == b"network\n" if status == 5 else done[2]

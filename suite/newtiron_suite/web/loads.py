@@ -1,14 +1,21 @@
-"""Clients that are slow, and many of them."""
+"""Clients that are slow or late, and many of them."""
 import contextlib
 import pathlib
+import re
 import threading
 import time
+from concurrent.futures import ThreadPoolExecutor
 
-from ..client import until
+from ..client import HOST, until
 from ..model import compose
 from ..scenes import ECHO, SERVED
 from ..tally import Tally
+from ..web_client import Response, Speaker
 from .common import CONNECTIONS, Pair
+
+# the seconds that a head has, and a body after it; and by how many the server may be late
+HEAD_TIME, BODY_TIME, LEEWAY = 15, 60, 3
+MOST_OF_ONE_ADDRESS = 16
 
 
 def slow(tally: Tally, folder: pathlib.Path) -> None:
@@ -50,8 +57,89 @@ def slow(tally: Tally, folder: pathlib.Path) -> None:
         pair.is_right(tally, "slow")
 
 
+def late(tally: Tally, folder: pathlib.Path) -> None:
+    """Heads and bodies that do not come in the time that they have, from their first octet on."""
+    log = folder / "log"
+    with Pair(folder, "--log-file", log) as pair:
+        pair.fill()
+        begun = time.monotonic()
+        nothing, head, dripping, body, second = speakers = [pair.connect() for _ in range(5)]
+        head.send(b"GET /health HTTP/1.1\r\n")
+        body.send(body.request("POST", "/NORTH/worklist", pair.keys["NORTH"],
+                               fields=["Content-Length: 100"]) + b"x")
+        tally.check("a first request is answered",
+                    second.ask("GET", "/health").status == 200)
+
+        def drip() -> None:
+            for octet in b"GET /health HTTP/1.1\r\nHost: localhost\r\n":
+                with contextlib.suppress(OSError):
+                    dripping.send(bytes([octet]))
+                time.sleep(0.5)
+
+        def send_second() -> None:
+            time.sleep(5)
+            second.send(b"GET /health")
+
+        def wait(speaker: Speaker) -> tuple[Response | None, bool, float]:
+            speaker.socket.settimeout(BODY_TIME + 15)
+            response = speaker.response()
+            return response, speaker.is_closed(), time.monotonic() - begun
+
+        for act in (drip, send_second):
+            threading.Thread(target=act, daemon=True).start()
+        with ThreadPoolExecutor(len(speakers)) as pool:
+            ends = dict(zip(speakers, pool.map(wait, speakers)))
+        for what, speaker, status, seconds in (
+                ("nothing", nothing, None, HEAD_TIME), ("half a head", head, 408, HEAD_TIME),
+                ("a head by and by", dripping, 408, HEAD_TIME),
+                ("half of a second head", second, 408, 5 + HEAD_TIME),
+                ("a head whose body is late", body, 408, BODY_TIME)):
+            response, is_closed, took = ends[speaker]
+            told = None if response is None else (response.status, response.body)
+            wanted = None if status is None else (status, b'{"refused":"time"}')
+            tally.check(f"{what} has its time", told == wanted
+                        and seconds - 0.1 <= took <= seconds + LEEWAY, told, took)
+            tally.check(f"{what}: the connection ends", is_closed
+                        and (response is None or response.fields.get("connection") == "close"),
+                        response and response.head)
+        tally.check("the log has them", until(lambda: len(re.findall(
+            r" web \S+ - - - 408 ms 15\d{3}\n", log.read_text())) == 3
+            and len(re.findall(r" web \S+ POST NORTH /worklist 408 ms 60\d{3}\n",
+                               log.read_text())) == 1, 5), log.read_text())
+        pair.is_right(tally, "late")
+
+
+def crowd(tally: Tally, folder: pathlib.Path) -> None:
+    """One address has at most 16 connections: the others are closed at once."""
+    log = folder / "log"
+    with Pair(folder, "--log-file", log) as pair:
+        pair.fill()
+        held = [pair.connect() for _ in range(MOST_OF_ONE_ADDRESS)]
+        told = [speaker.ask("GET", "/health").status for speaker in held]
+        tally.check("as many as one address may have are served", told == [200] * len(held), told)
+        with pair.connect() as other:
+            tally.check("one more is closed at once", other.is_closed())
+        tally.check("the log says so", until(lambda: re.search(
+            rf" web given up {re.escape(HOST)}:\d+ peer-connections\n", log.read_text()), 5),
+            log.read_text())
+        pair.clients["1"].send(ECHO)
+        tally.check("an association is served beside them", pair.clients["1"].status() == 0)
+        held.pop().close()
+
+        def is_served() -> bool:
+            told = pair.ask("GET", "/health")
+            return told is not None and told.status == 200
+        tally.check("when one is gone another is served", until(is_served, 5))
+        pair.is_right(tally, "crowd")
+    with Pair(folder, "--web-peer-connections", "2") as pair:
+        first, second = pair.connect(), pair.connect()
+        told = [speaker.ask("GET", "/health").status for speaker in (first, second)]
+        with pair.connect() as third:
+            tally.check("--web-peer-connections 2", told == [200, 200] and third.is_closed(), told)
+
+
 def many(tally: Tally, folder: pathlib.Path) -> None:
-    with Pair(folder) as pair:
+    with Pair(folder, "--web-peer-connections", "0") as pair:
         pair.fill()
         found = [None] * CONNECTIONS
 

@@ -50,7 +50,8 @@ def orthanc(tally: Tally, folder: pathlib.Path) -> None:
                 found = [one.get("0020,000d", one.get("0020000D", {})).get("Value") for one in got
                          or []]
                 is_found = [one[0] if isinstance(one, list) else one for one in found] == uids
-                tally.check(f"Orthanc asks for {words}", got is not None and is_found, got)
+                tally.check(f"Orthanc asks for {words}", got is not None and is_found, got,
+                            (folder / "told").read_text(errors="replace")[-900:])
             with_key, without_key = (orthanc_answers(port, "POST",
                                                      f"/dicom-web/servers/{name}/qido",
                                                      {"Uri": "/studies"})
@@ -83,7 +84,7 @@ def nginx(tally: Tally, folder: pathlib.Path) -> None:
     if any(shutil.which(name) is None for name in ("nginx", "openssl")):
         skip("nginx", "nginx and openssl are not installed")
         return
-    with Pair(folder, web_host="dicom.hospital.example") as pair:
+    with Pair(folder, "--web-peer-connections", "0", web_host="dicom.hospital.example") as pair:
         pair.fill()
         port = free_port()
         subprocess.run(["openssl", "req", "-x509", "-newkey", "rsa:2048", "-nodes", "-days",

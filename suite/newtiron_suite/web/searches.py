@@ -59,16 +59,19 @@ SEARCHES = [
     "rs/studies?PatientID=P1&&", "rs/studies?", "rs/studies?PatientID=P1&PatientID=P2",
     "rs/studies?PatientName=",
     "rs/studies?Rows=512", "rs/studies?PatientName=%00", "rs/studies?PatientName=%ff*",
-    "rs/studies?PatientID=P+1",
+    "rs/studies?PatientID=P+1", "rs/studies?StudyInstanceUID=1.2.0,1.2.2",
+    "rs/studies?StudyInstanceUID=1.2.2%2C1.2.0", "rs/studies?StudyInstanceUID=1.2.0,",
+    "rs/studies?PatientName=DOE,JANE",
+    # unknown, and passed over
+    "rs/studies?Patient=P1", "rs/studies?patientid=P1", "rs/studies?=P1", "rs/studies?0010002=P1",
+    "rs/studies?PatientID=P1&x", "rs/studies?%50atientID=P1", "rs/studies?limits=1",
+    "rs/studies?00091001=x&PatientID=P1", "rs/studies?x\"\\=1",
+    "rs/studies?00400100.00400002=20240705", "steps?x=1", "rs/studies/1.2.0/series?x=1",
     # refused
-    "rs/studies?Patient=P1", "rs/studies?PatientID", "rs/studies?patientid=P1",
-    "rs/studies?limit=x", "rs/studies?limit=-1",
-    "rs/studies?offset=1.5", "rs/studies?limit=", "rs/studies?=P1",
-    "rs/studies?StudyDate=yesterday",
-    "rs/studies?StudyDate=20240230", "rs/studies?Rows=x", "rs/studies?0010002=P1",
-    "rs/studies?PatientID=P1&x",
+    "rs/studies?PatientID", "rs/studies?limit=x", "rs/studies?limit=-1", "rs/studies?limit",
+    "rs/studies?offset=1.5", "rs/studies?limit=", "rs/studies?StudyDate=yesterday",
+    "rs/studies?StudyDate=20240230", "rs/studies?Rows=x",
     "rs/studies?limit=18446744073709551616", "rs/studies?ScheduledProcedureStepSequence=x",
-    "rs/studies?%50atientID=P1",
     # below
     "rs/studies/1.2.0/series", "rs/studies/1.2.0/series?Modality=MR",
     "rs/studies/1.2.0/series?SeriesNumber=1",
@@ -107,15 +110,19 @@ def searches(tally: Tally, folder: pathlib.Path) -> None:
         tally.check("nothing is found, by hand",
                     (told.status, told.body, told.fields.get("content-type")) == (204, b"", None),
                     told.head)
-        told = pair.ask("GET", "/NORTH/rs/studies?Nothing=1", "NORTH")
+        told = pair.ask("GET", "/NORTH/rs/studies?limit=many", "NORTH")
         tally.check("a word that is none, by hand",
-                    told.status == 400 and told.json() == {"refused": "keyword Nothing=1"},
+                    told.status == 400 and told.json() == {"refused": "keyword limit=many"},
                     told.body)
-        told = pair.ask("GET", "/NORTH/rs/studies?x%22%5C=1", "NORTH")
+        told = pair.ask("GET", "/NORTH/rs/studies?Nothing=1&PatientID=P1", "NORTH")
+        tally.check("an unknown parameter, by hand",
+                    told.status == 200 and len(told.json()) == 1 and told.fields.get("warning")
+                    == '299 newtiron "An unknown parameter was ignored."', told.head)
+        told = pair.ask("GET", "/NORTH/rs/studies?limit=%22%5C", "NORTH")
         tally.check("a refusal that quotes is JSON",
                     told.status == 400 and isinstance(told.json(), dict), told.body)
         tally.check("a quote in a query",
-                    (told := pair.ask("GET", "/NORTH/rs/studies?x\"\\=1", "NORTH")).status == 400
+                    (told := pair.ask("GET", "/NORTH/rs/studies?limit=\"\\", "NORTH")).status == 400
                     and
                     isinstance(told.json(), dict), told.status, told.body)
         with pair.connect() as speaker:
@@ -158,8 +165,9 @@ def forms(tally: Tally, pair: Pair) -> None:
                    "rs/studies?PatientName=NOBODY&fuzzymatching=true",
                    "rs/studies?fuzzymatching=false", "rs/studies?fuzzymatching=true&Nothing=1"):
         told = pair.compare(tally, "fuzzy matching", "GET", f"/NORTH/{target}", "NORTH")
-        is_warned = "fuzzymatching=true" in target and "Nothing" not in target
-        tally.check(f"a warning of {target}", ("warning" in told.fields) == is_warned, told.fields)
+        is_warned = "fuzzymatching=true" in target
+        tally.check(f"a warning of {target}",
+                    ("fuzzymatching" in told.fields.get("warning", "")) == is_warned, told.fields)
 
 
 def long_page(tally: Tally, pair: Pair, count: int = 97) -> None:
@@ -169,6 +177,10 @@ def long_page(tally: Tally, pair: Pair, count: int = 97) -> None:
                              StudyDescription="x" * 60))
     tally.check("a hundred studies",
                 len(pair.ask("GET", "/NORTH/rs/studies", "NORTH").json()) == 100)
+    for limit, is_warned in ((99, True), (100, True), (101, False), (0, False)):
+        told = pair.ask("GET", f"/NORTH/rs/studies?limit={limit}", "NORTH")
+        tally.check(f"a warning that a page of {limit} is full",
+                    ("The page is full" in told.fields.get("warning", "")) == is_warned, told.head)
     for target in ("rs/studies", "rs/studies?limit=1000", "rs/studies?PatientName=LONG*&offset=90",
                    "rs/studies?limit=100&offset=100"):
         pair.compare(tally, "a long page", "GET", f"/NORTH/{target}", "NORTH")

@@ -7,7 +7,7 @@ loop-at-preserved-then-turn g c =
     let within : c.loop-at.at < length c.loop-at.self.visitors.items = omega (arith, c.loop-at.self.visitors.ok.0) in
     record {
       so = turns-kept c.loop-at.invariant.so within _ c.index_mut-visitor.ensures.value _
-          (rw c.loop-at.invariant.site at c.if-turn.ensures);
+          (c.now.result, rw c.loop-at.invariant.site at c.if-turn.ensures);
       site = c.loop-at.invariant.site;
     }
 
