@@ -9,7 +9,7 @@ use Rattle.dq_tables.proofs.Calling.{refused, reads_nothing, reads_right, serves
 use Rattle.dq_archive.specs.declared.decision.Decision.{Decision}
 use Rattle.dq_archive.specs.declared.archive.Archive.{Archive}
 use Rattle.dq_archive.specs.Deciding.{IsOwn, FitsIf}
-use Rattle.dq_archive.specs.Archives.{state_in, records_in, Looks, Decides}
+use Rattle.dq_archive.specs.Archives.{state_in, records_in, QueriesOnly, Decides}
 
 -- ---- decided
 
@@ -24,7 +24,7 @@ decides_at_once state it does answer d is made = rw is (record {
 })
 
 module _ {T A Answer : Type 0} (state : T → State) (old new : Archive T) (does : List Record → Answer × List Edit) (look : List Record → A) (x : A)
-    (looks : Looks state old new look (Ok x)) (answer : Answer) (d : Decision Answer) where
+    (looks : QueriesOnly state old new look (Ok x)) (answer : Answer) (d : Decision Answer) where
   abbrev holds_now : Type 0
   holds_now = (state_in state new).honest
 

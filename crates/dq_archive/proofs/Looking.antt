@@ -11,7 +11,7 @@ use Rattle.dq_tables.specs.Keeping.{State, Reads}
 use Rattle.dq_tables.proofs.Calling.{reads_nothing, reads_then, reads_right}
 use Rattle.dq_tables.proofs.Seen.{found_own}
 use Rattle.dq_archive.specs.declared.archive.Archive.{Archive}
-use Rattle.dq_archive.specs.Archives.{IsSame, state_in, records_in, Looks}
+use Rattle.dq_archive.specs.Archives.{IsSame, state_in, records_in, QueriesOnly}
 
 -- ---- rows and records
 
@@ -42,7 +42,7 @@ as_record h (Some r) row e = sym (ap (option_map record_of) e)
 pub looks_for : {T A : Type 0} (state : T → State) (old new : Archive T) (find : List ℕ → List Row → A) (look : List Record → A) (name : List ℕ) (r : Result A TableFault)
     → IsSame old new → name ≡ old.institution.now.name → find old.institution.now.name (state_in state old).rows ≡ look (records_in state old)
     → Reads (state_in state old) (state_in state new) r → ((state_in state new).honest → IfOk r (λ x. x ≡ find name (state_in state old).rows))
-    → Looks state old new look r
+    → QueriesOnly state old new look r
 looks_for state old new find look name r same named own reads found = record {
   same = same;
   reads = reads;
@@ -55,13 +55,13 @@ same_then old mid new first second = record {
   institution = second.institution ∙ first.institution;
 }
 
-module _ {T A : Type 0} (state : T → State) (old mid new : Archive T) (f : List Record → A) (x : A) (first : Looks state old mid f (Ok x)) where
+module _ {T A : Type 0} (state : T → State) (old mid new : Archive T) (f : List Record → A) (x : A) (first : QueriesOnly state old mid f (Ok x)) where
   -- the records are still the same
   pub records_stay : (state_in state mid).honest → records_in state mid ≡ records_in state old
   records_stay h = λ i. of (first.same.institution i).now.name (first.reads.same h i)
 
   -- what is looked up second, as of the beginning
-  pub looks_then : {B : Type 0} (g : List Record → B) (r : Result B TableFault) → Looks state mid new g r → Looks state old new g r
+  pub looks_then : {B : Type 0} (g : List Record → B) (r : Result B TableFault) → QueriesOnly state mid new g r → QueriesOnly state old new g r
   looks_then g r second = record {
     same = same_then old mid new first.same second.same;
     reads = reads_then (state_in state old) (state_in state mid) (state_in state new) x r first.reads second.reads;
@@ -76,7 +76,7 @@ pub record LooksSoFar {T X : Type 0} (state : T → State) (old new : Archive T)
 
 -- one call more
 pub looks_on : {T X Y Z : Type 0} (state : T → State) (old mid new : Archive T) (x : X) (Fact : List Record → Type 0) → LooksSoFar state old mid x Fact
-    → (y : Y) (z : Z) (look : List Record → Y) (Next : List Record → Type 0) → Looks state mid new look (Ok y)
+    → (y : Y) (z : Z) (look : List Record → Y) (Next : List Record → Type 0) → QueriesOnly state mid new look (Ok y)
     → ((records : List Record) → Fact records → y ≡ look records → Next records) → LooksSoFar state old new z Next
 looks_on state old mid new x Fact first y z look Next second next = record {
   same = same_then old mid new first.same second.same;
@@ -90,7 +90,7 @@ looks_on state old mid new x Fact first y z look Next second next = record {
 
 -- nothing was called
 pub looks_nothing : {T A : Type 0} (state : T → State) (it : Archive T) (look : List Record → A) (x : A) → x ≡ look (records_in state it)
-    → Looks state it it look (Ok x)
+    → QueriesOnly state it it look (Ok x)
 looks_nothing state it look x defined = record {
   same = record { tables = refl; institution = refl };
   reads = reads_nothing (state_in state it) x;
@@ -98,8 +98,8 @@ looks_nothing state it look x defined = record {
 }
 
 -- another answer, which follows from what was looked up
-pub looks_as : {T A B : Type 0} (state : T → State) (old new : Archive T) (f : List Record → A) (x : A) → Looks state old new f (Ok x)
-    → (g : List Record → B) (y : B) → ((state_in state new).honest → y ≡ g (records_in state old)) → Looks state old new g (Ok y)
+pub looks_as : {T A B : Type 0} (state : T → State) (old new : Archive T) (f : List Record → A) (x : A) → QueriesOnly state old new f (Ok x)
+    → (g : List Record → B) (y : B) → ((state_in state new).honest → y ≡ g (records_in state old)) → QueriesOnly state old new g (Ok y)
 looks_as state old new f x first g y defined = record {
   same = first.same;
   reads = reads_right (state_in state old) (state_in state new) x y first.reads;
@@ -107,8 +107,8 @@ looks_as state old new f x first g y defined = record {
 }
 
 -- the same by another name of what is looked up
-pub looks_alike : {T A : Type 0} (state : T → State) (old new : Archive T) (f g : List Record → A) (r : Result A TableFault) → Looks state old new f r
-    → ((state_in state old).honest → f (records_in state old) ≡ g (records_in state old)) → Looks state old new g r
+pub looks_alike : {T A : Type 0} (state : T → State) (old new : Archive T) (f g : List Record → A) (r : Result A TableFault) → QueriesOnly state old new f r
+    → ((state_in state old).honest → f (records_in state old) ≡ g (records_in state old)) → QueriesOnly state old new g r
 looks_alike state old new f g r first alike = record {
   same = first.same;
   reads = first.reads;

@@ -28,7 +28,7 @@ abbrev pub records_in : {T : Type 0} → (T → State) → Archive T → List Re
 records_in state archive = of archive.institution.now.name (state_in state archive).rows
 
 -- What is looked up follows from these records, and nothing changes.
-pub record Looks {T : Type 0} {Answer : Type 0} (state : T → State) (old new : Archive T)
+pub record QueriesOnly {T : Type 0} {Answer : Type 0} (state : T → State) (old new : Archive T)
     (look : List Record → Answer) (result : Result Answer TableFault) : Type 0 where
   pub same : IsSame old new
   pub reads : Reads (state_in state old) (state_in state new) result

@@ -29,7 +29,7 @@ records_in state past =
     without past.later.now (of past.institution.now.name (state_in state past).rows)
 
 -- What is looked up follows from these records, and nothing changes.
-pub record Looks {T : Type 0} {Answer : Type 0} (state : T → State) (old new : Past T)
+pub record QueriesOnly {T : Type 0} {Answer : Type 0} (state : T → State) (old new : Past T)
     (look : List Record → Answer) (result : Result Answer TableFault) : Type 0 where
   pub same : IsSame old new
   pub reads : Reads (state_in state old) (state_in state new) result

@@ -4,7 +4,7 @@ ghost use Rattle.dq_tables.specs.Rows.{row_of};
 ghost use Rattle.dq_tables.specs.Finding.{record_at, records_of, records_above, records_after, waiting_among};
 ghost use Rattle.dq_tables.specs.Choosing.{studies_among};
 ghost use Rattle.dq_tables.specs.Serving.{Serves};
-ghost use Rattle.dq_archive.specs.Archives.{IsOver, IsSame, state_in, Looks};
+ghost use Rattle.dq_archive.specs.Archives.{IsOver, IsSame, state_in, QueriesOnly};
 ghost use Rattle.dq_archive.specs.Deciding.{answer_and_edits, IsOwn, FitsIf};
 ghost use Rattle.dq_archive.specs.Later.{IsTold};
 
@@ -40,7 +40,7 @@ impl<'a, T: Tables> Archive<'a, T> {
 
     /// Whether a record of a kind has the key.
     pub fn has(&mut self, kind: Kind, key: &[u8]) -> Result<bool, TableFault>
-        ensures { Looks T.state self.old self.new
+        ensures { QueriesOnly T.state self.old self.new
             (λ records. is_some (record_at kind key.now records)) result }
     {
         let row = self.row(kind, key)?;
@@ -49,7 +49,7 @@ impl<'a, T: Tables> Archive<'a, T> {
 
     /// Returns the record of a kind with the key, as a row.
     pub fn row(&mut self, kind: Kind, key: &[u8]) -> Result<Option<Row>, TableFault>
-        ensures { Looks T.state self.old self.new (λ records.
+        ensures { QueriesOnly T.state self.old self.new (λ records.
             option_map (row_of self.old.institution.now.name) (record_at kind key.now records))
             result }
     {
@@ -59,7 +59,7 @@ impl<'a, T: Tables> Archive<'a, T> {
 
     /// Counts the institution's records of a kind.
     pub fn count(&mut self, kind: Kind) -> Result<u64, TableFault>
-        ensures { Looks T.state self.old self.new
+        ensures { QueriesOnly T.state self.old self.new
             (λ records. length (records_of kind records)) result }
     {
         let name = self.institution.name.as_slice();
@@ -74,7 +74,7 @@ impl<'a, T: Tables> Archive<'a, T> {
         from: usize,
         most: usize,
     ) -> Result<Listed<Row>, TableFault>
-        ensures { Looks T.state self.old self.new (λ records.
+        ensures { QueriesOnly T.state self.old self.new (λ records.
             map (row_of self.old.institution.now.name)
             (take most (drop from (records_of kind records)))) result }
     {
@@ -90,7 +90,7 @@ impl<'a, T: Tables> Archive<'a, T> {
         key: &[u8],
         most: usize,
     ) -> Result<Listed<Row>, TableFault>
-        ensures { Looks T.state self.old self.new (λ records.
+        ensures { QueriesOnly T.state self.old self.new (λ records.
             map (row_of self.old.institution.now.name)
             (take most (records_after kind key.now records))) result }
     {
@@ -101,7 +101,7 @@ impl<'a, T: Tables> Archive<'a, T> {
     /// The records of a kind under the record with the key `above`, as rows in the order of their
     /// keys.
     pub fn rows_above(&mut self, kind: Kind, above: &[u8]) -> Result<Listed<Row>, TableFault>
-        ensures { Looks T.state self.old self.new (λ records.
+        ensures { QueriesOnly T.state self.old self.new (λ records.
             map (row_of self.old.institution.now.name) (records_above kind above.now records))
             result }
     {
@@ -111,7 +111,7 @@ impl<'a, T: Tables> Archive<'a, T> {
 
     /// Counts the institution's records of a kind under the record with the key `above`.
     pub fn count_above(&mut self, kind: Kind, above: &[u8]) -> Result<u64, TableFault>
-        ensures { Looks T.state self.old self.new
+        ensures { QueriesOnly T.state self.old self.new
             (λ records. length (records_above kind above.now records)) result }
     {
         let name = self.institution.name.as_slice();
@@ -120,7 +120,7 @@ impl<'a, T: Tables> Archive<'a, T> {
 
     /// The studies that a choice takes, as rows in the order of their keys.
     pub fn studies_in(&mut self, choice: &Choice) -> Result<Listed<Row>, TableFault>
-        ensures { Looks T.state self.old self.new (λ records.
+        ensures { QueriesOnly T.state self.old self.new (λ records.
             map (row_of self.old.institution.now.name) (studies_among choice.now records)) result }
     {
         let name = self.institution.name.as_slice();
@@ -130,7 +130,7 @@ impl<'a, T: Tables> Archive<'a, T> {
     /// The worklist entries that wait, as rows: no performed procedure step has started them (PS3.4
     /// section K.6.1.2).
     pub fn waiting(&mut self) -> Result<Listed<Row>, TableFault>
-        ensures { Looks T.state self.old self.new (λ records.
+        ensures { QueriesOnly T.state self.old self.new (λ records.
             map (row_of self.old.institution.now.name) (waiting_among records)) result }
     {
         let name = self.institution.name.as_slice();

@@ -4,7 +4,7 @@ ghost use Rattle.dq_tables.specs.Rows.{row_of};
 ghost use Rattle.dq_tables.specs.Finding.{record_at, records_of, records_above, records_after};
 ghost use Rattle.dq_tables.specs.Choosing.{studies_among};
 ghost use Rattle.dq_archive.specs.Later.{unless_later};
-ghost use Rattle.dq_archive.specs.Pasts.{IsOver, Looks};
+ghost use Rattle.dq_archive.specs.Pasts.{IsOver, QueriesOnly};
 
 use crate::later::{Added, before, is_later, is_touched};
 use dq_config::Institution;
@@ -41,7 +41,7 @@ impl<'a, T: Tables> Past<'a, T> {
 
     /// Returns the record of a kind with the key, as a row.
     pub fn row(&mut self, kind: Kind, key: &[u8]) -> Result<Option<Row>, TableFault>
-        ensures { Looks T.state self.old self.new (λ records.
+        ensures { QueriesOnly T.state self.old self.new (λ records.
             option_map (row_of self.old.institution.now.name)
             (record_at kind key.now records)) result }
     {
@@ -59,7 +59,7 @@ impl<'a, T: Tables> Past<'a, T> {
         from: usize,
         most: usize,
     ) -> Result<Listed<Row>, TableFault>
-        ensures { Looks T.state self.old self.new (λ records.
+        ensures { QueriesOnly T.state self.old self.new (λ records.
             map (row_of self.old.institution.now.name)
             (take most (drop from (records_of kind records)))) result }
     {
@@ -87,7 +87,7 @@ impl<'a, T: Tables> Past<'a, T> {
         key: &[u8],
         most: usize,
     ) -> Result<Listed<Row>, TableFault>
-        ensures { Looks T.state self.old self.new (λ records.
+        ensures { QueriesOnly T.state self.old self.new (λ records.
             map (row_of self.old.institution.now.name)
             (take most (records_after kind key.now records))) result }
     {
@@ -107,7 +107,7 @@ impl<'a, T: Tables> Past<'a, T> {
     /// The records of a kind under the record with the key `above`, as rows in the order of their
     /// keys.
     pub fn rows_above(&mut self, kind: Kind, above: &[u8]) -> Result<Listed<Row>, TableFault>
-        ensures { Looks T.state self.old self.new (λ records.
+        ensures { QueriesOnly T.state self.old self.new (λ records.
             map (row_of self.old.institution.now.name)
             (records_above kind above.now records)) result }
     {
@@ -118,7 +118,7 @@ impl<'a, T: Tables> Past<'a, T> {
 
     /// Counts the institution's records of a kind under the record with the key `above`.
     pub fn count_above(&mut self, kind: Kind, above: &[u8]) -> Result<u64, TableFault>
-        ensures { Looks T.state self.old self.new
+        ensures { QueriesOnly T.state self.old self.new
             (λ records. length (records_above kind above.now records)) result }
     {
         if !is_touched(self.later, kind, above) {
@@ -131,7 +131,7 @@ impl<'a, T: Tables> Past<'a, T> {
 
     /// The studies that a choice takes, as rows in the order of their keys.
     pub fn studies_in(&mut self, choice: &Choice) -> Result<Listed<Row>, TableFault>
-        ensures { Looks T.state self.old self.new (λ records.
+        ensures { QueriesOnly T.state self.old self.new (λ records.
             map (row_of self.old.institution.now.name)
             (studies_among choice.now records)) result }
     {

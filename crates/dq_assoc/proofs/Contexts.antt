@@ -13,7 +13,7 @@ use Rattle.dq_pdu.specs.declared.pdu.ProposedContext.{ProposedContext}
 use Rattle.dq_pdu.specs.declared.pdu.AnsweredContext.{AnsweredContext}
 use Rattle.dq_pdu.specs.Octets.{is_number_among, are_distinct}
 use Rattle.dq_assoc.specs.declared.classes.SopClass.{SopClass}
-use Rattle.dq_assoc.specs.declared.agreement.AgreedContext.{AgreedContext}
+use Rattle.dq_assoc.specs.declared.agreement.AcceptedContext.{AcceptedContext}
 use Rattle.dq_assoc.specs.Classes.{uid_of, served_classes, class_of}
 use Rattle.dq_assoc.specs.Negotiation.{syntax_uid, offers, preferred_syntax, accepted_context, context_result_of, agreed_context, is_accepted, acceptance, answer_with, context_answer, answered_context}
 
@@ -66,38 +66,38 @@ preferred-offered syntaxes false false syntax x i e = absurd cc
 -- ---- agreed contexts
 
 -- what is agreed on comes of a class and a syntax
-pub record Comes (id : ℕ) (class : Option SopClass) (syntax : Option Syntax) (a : AgreedContext) : Type 0 where
+pub record Comes (id : ℕ) (class : Option SopClass) (syntax : Option Syntax) (a : AcceptedContext) : Type 0 where
   pub id_is : a.id ≡ id
   pub class_is : class ≡ Some a.class
   pub syntax_is : syntax ≡ Some a.syntax
 
-comes : (id : ℕ) (class : Option SopClass) (syntax : Option Syntax) (a : AgreedContext) → result_ok (context_result_of id class syntax) ≡ Some a
+comes : (id : ℕ) (class : Option SopClass) (syntax : Option Syntax) (a : AcceptedContext) → result_ok (context_result_of id class syntax) ≡ Some a
     → Comes id class syntax a
 comes id None syntax a e = absurd cc
 comes id (Some class) None a e = absurd cc
 comes id (Some class) (Some syntax) a e =
     let same : accepted_context id class syntax ≡ a = cc in
     record {
-      id_is = ap (λ (x : AgreedContext). x.id) (sym same);
-      class_is = ap (λ (x : AgreedContext). Some x.class) same;
-      syntax_is = ap (λ (x : AgreedContext). Some x.syntax) same;
+      id_is = ap (λ (x : AcceptedContext). x.id) (sym same);
+      class_is = ap (λ (x : AcceptedContext). Some x.class) same;
+      syntax_is = ap (λ (x : AcceptedContext). Some x.syntax) same;
     }
 
-pub agreed-comes : (c : ProposedContext) (a : AgreedContext) → agreed_context c ≡ Some a
+pub agreed-comes : (c : ProposedContext) (a : AcceptedContext) → agreed_context c ≡ Some a
     → Comes c.id (class_of c.abstract_syntax) (preferred_syntax c.transfer_syntaxes) a
 agreed-comes c a e = comes c.id (class_of c.abstract_syntax) (preferred_syntax c.transfer_syntaxes) a e
 
-pub agreed-id : (c : ProposedContext) (a : AgreedContext) → agreed_context c ≡ Some a → a.id ≡ c.id
+pub agreed-id : (c : ProposedContext) (a : AcceptedContext) → agreed_context c ≡ Some a → a.id ≡ c.id
 agreed-id c a e = (agreed-comes c a e).id_is
 
-pub agreed-class : (c : ProposedContext) (a : AgreedContext) → agreed_context c ≡ Some a → uid_of a.class ≡ c.abstract_syntax
+pub agreed-class : (c : ProposedContext) (a : AcceptedContext) → agreed_context c ≡ Some a → uid_of a.class ≡ c.abstract_syntax
 agreed-class c a e = class-named c.abstract_syntax a.class (agreed-comes c a e).class_is
 
-pub agreed-offered : (c : ProposedContext) (a : AgreedContext) → agreed_context c ≡ Some a → Contains c.transfer_syntaxes (syntax_uid a.syntax)
+pub agreed-offered : (c : ProposedContext) (a : AcceptedContext) → agreed_context c ≡ Some a → Contains c.transfer_syntaxes (syntax_uid a.syntax)
 agreed-offered c a e =
     contains-offered c.transfer_syntaxes (syntax_uid a.syntax) (preferred-offered c.transfer_syntaxes _ _ a.syntax refl refl (agreed-comes c a e).syntax_is)
 
-pub agreed-explicit : (c : ProposedContext) (a : AgreedContext) → agreed_context c ≡ Some a → Contains c.transfer_syntaxes (syntax_uid Explicit)
+pub agreed-explicit : (c : ProposedContext) (a : AcceptedContext) → agreed_context c ≡ Some a → Contains c.transfer_syntaxes (syntax_uid Explicit)
     → a.syntax ≡ Explicit
 agreed-explicit c a e offered = grind (arith, offers-contained, agreed-comes)
 
@@ -119,13 +119,13 @@ pub accepted-offered : (c : ProposedContext) (class : SopClass) (syntax : Syntax
     → Contains c.transfer_syntaxes (syntax_uid syntax) → is_accepted c ≡ true
 accepted-offered c class syntax e offered = grind (arith, some-result, preferred-some, offers-contained)
 
-answer-ok : (id : ℕ) (class : Option SopClass) (syntax : Option Syntax) (a : AgreedContext) → result_ok (context_result_of id class syntax) ≡ Some a
+answer-ok : (id : ℕ) (class : Option SopClass) (syntax : Option Syntax) (a : AcceptedContext) → result_ok (context_result_of id class syntax) ≡ Some a
     → context_answer id (context_result_of id class syntax) ≡ answer_with a.id acceptance a.syntax
 answer-ok id None syntax a e = absurd cc
 answer-ok id (Some class) None a e = absurd cc
 answer-ok id (Some class) (Some syntax) a e = grind arith
 
-pub agreed-answer : (c : ProposedContext) (a : AgreedContext) → agreed_context c ≡ Some a → answered_context c ≡ answer_with a.id acceptance a.syntax
+pub agreed-answer : (c : ProposedContext) (a : AcceptedContext) → agreed_context c ≡ Some a → answered_context c ≡ answer_with a.id acceptance a.syntax
 agreed-answer c a e = answer-ok c.id (class_of c.abstract_syntax) (preferred_syntax c.transfer_syntaxes) a e
 
 answer-err : (id : ℕ) (class : Option SopClass) (syntax : Option Syntax) → result_ok (context_result_of id class syntax) ≡ None
@@ -149,25 +149,25 @@ ids-stay (c ∷ cs) = grind (arith, id-stays, ids-stay cs)
 -- ---- the contexts of an agreement
 
 -- what one context adds to those that are agreed on
-contexts-cons : (o : Option AgreedContext) (c : ProposedContext) (cs : List ProposedContext) → o ≡ agreed_context c
-    → map (λ (a : AgreedContext). Some a) (filter_map agreed_context cs) ≡ map agreed_context (filter is_accepted cs)
-    → map (λ (a : AgreedContext). Some a) (cons_option o (filter_map agreed_context cs))
+contexts-cons : (o : Option AcceptedContext) (c : ProposedContext) (cs : List ProposedContext) → o ≡ agreed_context c
+    → map (λ (a : AcceptedContext). Some a) (filter_map agreed_context cs) ≡ map agreed_context (filter is_accepted cs)
+    → map (λ (a : AcceptedContext). Some a) (cons_option o (filter_map agreed_context cs))
     ≡ map agreed_context (cond (is_some o) (c ∷ filter is_accepted cs) (filter is_accepted cs))
 contexts-cons None c cs e later = later
 contexts-cons (Some a) c cs e later =
-    ap (λ (l : List (Option AgreedContext)). Some a ∷ l) later ∙ ap (λ (o : Option AgreedContext). o ∷ map agreed_context (filter is_accepted cs)) e
+    ap (λ (l : List (Option AcceptedContext)). Some a ∷ l) later ∙ ap (λ (o : Option AcceptedContext). o ∷ map agreed_context (filter is_accepted cs)) e
 
-pub contexts-accepted : (cs : List ProposedContext) → map (λ (a : AgreedContext). Some a) (filter_map agreed_context cs)
+pub contexts-accepted : (cs : List ProposedContext) → map (λ (a : AcceptedContext). Some a) (filter_map agreed_context cs)
     ≡ map agreed_context (filter is_accepted cs)
 contexts-accepted [] = refl
 contexts-accepted (c ∷ cs) = contexts-cons (agreed_context c) c cs refl (contexts-accepted cs)
 
 abbrev pub agreed-ids : List ProposedContext → List ℕ
-agreed-ids cs = map (λ (a : AgreedContext). a.id) (filter_map agreed_context cs)
+agreed-ids cs = map (λ (a : AcceptedContext). a.id) (filter_map agreed_context cs)
 
-ids-cons : (o : Option AgreedContext) (c : ProposedContext) (cs : List ProposedContext) → ((a : AgreedContext) → o ≡ Some a → a.id ≡ c.id)
+ids-cons : (o : Option AcceptedContext) (c : ProposedContext) (cs : List ProposedContext) → ((a : AcceptedContext) → o ≡ Some a → a.id ≡ c.id)
     → agreed-ids cs ≡ map (λ (c : ProposedContext). c.id) (filter is_accepted cs)
-    → map (λ (a : AgreedContext). a.id) (cons_option o (filter_map agreed_context cs))
+    → map (λ (a : AcceptedContext). a.id) (cons_option o (filter_map agreed_context cs))
     ≡ map (λ (c : ProposedContext). c.id) (cond (is_some o) (c ∷ filter is_accepted cs) (filter is_accepted cs))
 ids-cons None c cs same later = later
 ids-cons (Some a) c cs same later =
@@ -178,10 +178,10 @@ ids-accepted [] = refl
 ids-accepted (c ∷ cs) = ids-cons (agreed_context c) c cs (λ a e. agreed-id c a e) (ids-accepted cs)
 
 -- ids that are distinct stay so
-among-fewer : (x : ℕ) (o : Option AgreedContext) (c : ProposedContext) (cs : List ProposedContext) → ((a : AgreedContext) → o ≡ Some a → a.id ≡ c.id)
+among-fewer : (x : ℕ) (o : Option AcceptedContext) (c : ProposedContext) (cs : List ProposedContext) → ((a : AcceptedContext) → o ≡ Some a → a.id ≡ c.id)
     → (is_number_among x (map (λ (c : ProposedContext). c.id) cs) ≡ false → is_number_among x (agreed-ids cs) ≡ false)
     → ((x == c.id) || is_number_among x (map (λ (c : ProposedContext). c.id) cs)) ≡ false
-    → is_number_among x (map (λ (a : AgreedContext). a.id) (cons_option o (filter_map agreed_context cs))) ≡ false
+    → is_number_among x (map (λ (a : AcceptedContext). a.id) (cons_option o (filter_map agreed_context cs))) ≡ false
 among-fewer x None c cs same later e = later (or_parts (x == c.id) _ e).1
 among-fewer x (Some a) c cs same later e =
     ap (λ (n : ℕ). (x == n) || is_number_among x (agreed-ids cs)) (same a refl)
@@ -192,10 +192,10 @@ not-among : (x : ℕ) (cs : List ProposedContext) → is_number_among x (map (λ
 not-among x [] e = refl
 not-among x (c ∷ cs) e = among-fewer x (agreed_context c) c cs (λ a h. agreed-id c a h) (not-among x cs) e
 
-distinct-cons : (o : Option AgreedContext) (c : ProposedContext) (cs : List ProposedContext) → ((a : AgreedContext) → o ≡ Some a → a.id ≡ c.id)
+distinct-cons : (o : Option AcceptedContext) (c : ProposedContext) (cs : List ProposedContext) → ((a : AcceptedContext) → o ≡ Some a → a.id ≡ c.id)
     → (are_distinct (map (λ (c : ProposedContext). c.id) cs) ≡ true → are_distinct (agreed-ids cs) ≡ true)
     → (not (is_number_among c.id (map (λ (c : ProposedContext). c.id) cs)) && are_distinct (map (λ (c : ProposedContext). c.id) cs)) ≡ true
-    → are_distinct (map (λ (a : AgreedContext). a.id) (cons_option o (filter_map agreed_context cs))) ≡ true
+    → are_distinct (map (λ (a : AcceptedContext). a.id) (cons_option o (filter_map agreed_context cs))) ≡ true
 distinct-cons None c cs same later e = later (and_parts (not (is_number_among c.id (map (λ (c : ProposedContext). c.id) cs))) _ e).1
 distinct-cons (Some a) c cs same later e =
     let both = and_parts (not (is_number_among c.id (map (λ (c : ProposedContext). c.id) cs))) _ e in

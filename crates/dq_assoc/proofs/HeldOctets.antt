@@ -16,7 +16,7 @@ use Rattle.dq_assoc.specs.Negotiation.{agreement_of, context_ids}
 use Rattle.dq_assoc.specs.Inputs.{leading_pdvs, after_leading_pdvs}
 use Rattle.dq_assoc.specs.After.{association_by, assembly_for, open_if, open_with}
 use Rattle.dq_assoc.specs.Holding.{WasGivenPdus, accepted_by}
-use Rattle.dq_assoc.proofs.Standing.{ids_same}
+use Rattle.dq_assoc.proofs.HeldAssociations.{ids_same}
 
 opened_if : (fault : Option DimseFault) (a agreement : Agreement) (x assembly : Assembly) → open_if fault a x ≡ held.Open agreement assembly
     → (a ≡ agreement) × (x ≡ assembly)

@@ -9,7 +9,7 @@ use Rattle.dq_dimse.specs.declared.assembler.Accepted.{Accepted}
 use Rattle.dq_dimse.specs.declared.command.Message.{Message as HeldMessage}
 use Rattle.dq_dimse.specs.declared.fault.DimseFault.{DimseFault}
 use Rattle.dq_dimse.specs.Assembling.{Assembly, spent_by}
-use Rattle.dq_dimse.specs.Holding.{StandForAll}
+use Rattle.dq_dimse.specs.Holding.{AllRefine}
 use Rattle.dq_dimse.specs.Received.{Message}
 use Rattle.dq_dimse.proofs.Assemblies.{assembly_from-nil}
 use Rattle.dq_dimse.proofs.Holdings.{stand_append}
@@ -26,7 +26,7 @@ use Rattle.dq_assoc.specs.Holding.{Stands, IsStep, accepted_in, held_agreement, 
 use Rattle.dq_assoc.specs.Steps.{AssociationStep, with_message, after_messages, open_outcome, step_of_inputs}
 use Rattle.dq_assoc.proofs.FromHere.{inputs-cons, association-append}
 use Rattle.dq_assoc.proofs.Sound.{none_is}
-use Rattle.dq_assoc.proofs.Standing.{after_stands, stands_sound, stands_state}
+use Rattle.dq_assoc.proofs.HeldAssociations.{after_stands, stands_sound, stands_state}
 
 -- inputs that don't close are messages, and what comes later comes after these
 unclosed : (first later : List Input) → (open_outcome first).close ≡ false
@@ -68,7 +68,7 @@ pub record HasTaken (accepted : List Accepted) (helds : List HeldMessage) (now :
     (first : HeldState) : Type 0 where
   pub list : List Message
   pub association : HeldState
-  pub stand : StandForAll accepted helds list
+  pub stand : AllRefine accepted helds list
   pub stands : Stands now association
   pub is : association ≡ association_from first done
   pub leads : after_messages list (open_outcome (inputs_from association left fault)) ≡ open_outcome (inputs_from first all fault)
@@ -88,7 +88,7 @@ took_none old helds fault all left opens unspent e l = record {
   takes = λ a h. record {
     list = [];
     association = a;
-    stand = subst (λ (hs : List HeldMessage). StandForAll (accepted_in (held_agreement old)) hs []) (sym e) tt;
+    stand = subst (λ (hs : List HeldMessage). AllRefine (accepted_in (held_agreement old)) hs []) (sym e) tt;
     stands = h;
     is = sym (stays a (stands_sound old a h unspent));
     leads = ap (λ (pdus : List Pdu). open_outcome (inputs_from a pdus fault)) l;
@@ -133,7 +133,7 @@ took_more old now new helds longer fault all done left later pdu step so l t c e
       record {
         list = k.list ++ (open_outcome first).messages;
         association = next;
-        stand = subst (λ (hs : List HeldMessage). StandForAll (accepted_in (held_agreement old)) hs (k.list ++ (open_outcome first).messages)) (sym e)
+        stand = subst (λ (hs : List HeldMessage). AllRefine (accepted_in (held_agreement old)) hs (k.list ++ (open_outcome first).messages)) (sym e)
             (stand_append (accepted_in (held_agreement old)) helds step.messages k.list (open_outcome first).messages k.stand is.messages);
         stands = t.next here k.stands;
         is = ap (λ (x : HeldState). association_from x (pdu ∷ [])) k.is ∙ sym (association-append a (map role_of done) (map role_of (pdu ∷ [])))

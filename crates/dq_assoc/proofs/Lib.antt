@@ -9,6 +9,6 @@ mod OneByOne
 mod OnePdu
 pub mod ShortPdus
 mod Sound
-pub mod Standing
+pub mod HeldAssociations
 mod Streams
 mod Values

@@ -3,8 +3,8 @@ use Rattle.std.specs.Prelude.{◌≡◌, Bool, true, List, [], map, Option, Some
 use Rattle.dq_pdu.specs.declared.pdu.Pdu.{Pdu}
 use Rattle.dq_dimse.specs.declared.assembler.Accepted.{Accepted}
 use Rattle.dq_dimse.specs.Assembling.{Assembly}
-use Rattle.dq_dimse.specs.Holding.{Assembles, StandForAll, spent_with}
-use Rattle.dq_assoc.specs.declared.agreement.AgreedContext.{AgreedContext}
+use Rattle.dq_dimse.specs.Holding.{Assembles, AllRefine, spent_with}
+use Rattle.dq_assoc.specs.declared.agreement.AcceptedContext.{AcceptedContext}
 use Rattle.dq_assoc.specs.declared.agreement.Agreement.{Agreement}
 use Rattle.dq_assoc.specs.declared.association.Held.{Held as HeldAssociation}
 use Rattle.dq_assoc.specs.declared.association.Held.TheVariants as code
@@ -16,7 +16,7 @@ use Rattle.dq_assoc.specs.Associations.{HeldState, Waiting, Open, Closed}
 use Rattle.dq_assoc.specs.Steps.{AssociationStep}
 
 -- the contexts that an assembler is made for: those agreed on, with their transfer syntaxes
-abbrev pub assembler_context : AgreedContext → Accepted
+abbrev pub assembler_context : AcceptedContext → Accepted
 assembler_context c = record { id = c.id; syntax = c.syntax }
 
 abbrev pub accepted_by : Agreement → List Accepted
@@ -58,6 +58,6 @@ pub record WasGivenPdus (pdus : List Pdu) (held : HeldAssociation) : Type 0 wher
 
 -- A step leads to what one of the definitions does, with messages on the accepted contexts.
 pub record IsStep (accepted : List Accepted) (held : HeldStep) (step : AssociationStep) : Type 0 where
-  pub messages : StandForAll accepted held.messages step.messages
+  pub messages : AllRefine accepted held.messages step.messages
   pub octets : held.octets ≡ step.octets
   pub close : held.close ≡ step.close

@@ -13,7 +13,7 @@ use Rattle.dq_pdu.specs.declared.pdu.ProposedContext.{ProposedContext}
 use Rattle.dq_pdu.specs.declared.pdu.AnsweredContext.{AnsweredContext}
 use Rattle.dq_pdu.specs.Numbers.{longest_body}
 use Rattle.dq_assoc.specs.declared.classes.SopClass.{SopClass}
-use Rattle.dq_assoc.specs.declared.agreement.AgreedContext.{AgreedContext}
+use Rattle.dq_assoc.specs.declared.agreement.AcceptedContext.{AcceptedContext}
 use Rattle.dq_assoc.specs.declared.agreement.Agreement.{Agreement}
 use Rattle.dq_assoc.specs.declared.negotiation.ContextRefusal.{ContextRefusal}
 use Rattle.dq_assoc.specs.declared.negotiation.ContextRefusal.TheVariants.{AbstractSyntaxNotSupported, TransferSyntaxesNotSupported}
@@ -42,22 +42,22 @@ preferred_syntax offered =
     if offers offered (syntax_uid Explicit) then Some Explicit
     else (if offers offered (syntax_uid Implicit) then Some Implicit else None)
 
-abbrev pub accepted_context : ℕ → SopClass → Syntax → AgreedContext
+abbrev pub accepted_context : ℕ → SopClass → Syntax → AcceptedContext
 accepted_context id class syntax = record { id = id; class = class; syntax = syntax }
 
 abbrev pub context_result_of : ℕ → Option SopClass → Option Syntax
-    → Result AgreedContext ContextRefusal
+    → Result AcceptedContext ContextRefusal
 context_result_of id None syntax = Err AbstractSyntaxNotSupported
 context_result_of id (Some class) None = Err TransferSyntaxesNotSupported
 context_result_of id (Some class) (Some syntax) = Ok (accepted_context id class syntax)
 
 -- what a proposed context comes to: its class is looked at before its transfer syntaxes
-abbrev pub context_result : ProposedContext → Result AgreedContext ContextRefusal
+abbrev pub context_result : ProposedContext → Result AcceptedContext ContextRefusal
 context_result c =
     context_result_of c.id (class_of c.abstract_syntax) (preferred_syntax c.transfer_syntaxes)
 
 -- the context that is agreed on, if it is accepted
-abbrev pub agreed_context : ProposedContext → Option AgreedContext
+abbrev pub agreed_context : ProposedContext → Option AcceptedContext
 agreed_context c = result_ok (context_result c)
 
 abbrev pub is_accepted : ProposedContext → Bool
@@ -73,7 +73,7 @@ answer_with id reason syntax =
     record { id = id; result = reason; transfer_syntax = syntax_uid syntax }
 
 -- the answer names the syntax that is agreed on; one that refuses names Implicit
-abbrev pub context_answer : ℕ → Result AgreedContext ContextRefusal → AnsweredContext
+abbrev pub context_answer : ℕ → Result AcceptedContext ContextRefusal → AnsweredContext
 context_answer id (Ok agreed) = answer_with id acceptance agreed.syntax
 context_answer id (Err refusal) = answer_with id (result_of_refusal refusal) Implicit
 
@@ -95,11 +95,11 @@ agreement_of request = record {
 
 -- the ids of the contexts
 abbrev pub context_ids : Agreement → List ℕ
-context_ids agreement = map (λ (c : AgreedContext). c.id) agreement.contexts
+context_ids agreement = map (λ (c : AcceptedContext). c.id) agreement.contexts
 
 -- the context with the id
-abbrev pub context_of : Agreement → ℕ → Option AgreedContext
-context_of agreement id = find (λ (c : AgreedContext). c.id == id) agreement.contexts
+abbrev pub context_of : Agreement → ℕ → Option AcceptedContext
+context_of agreement id = find (λ (c : AcceptedContext). c.id == id) agreement.contexts
 
 -- version 1, both titles and the reserved octets as received, and each context answered in order;
 -- the longest PDU that is received

@@ -58,7 +58,7 @@ impl PeerLimit {
 
 /// A presentation context that was accepted.
 #[derive(Clone, Copy, Debug, PartialEq, Eq)]
-pub struct AgreedContext {
+pub struct AcceptedContext {
     /// Its id.
     pub id: u8,
     pub class: SopClass,
@@ -66,7 +66,7 @@ pub struct AgreedContext {
     pub syntax: Syntax,
 }
 
-impl AgreedContext {
+impl AcceptedContext {
     /// What an assembler knows of it.
     fn accepted(&self) -> Accepted
         ensures { result ≡ assembler_context self.now }
@@ -82,7 +82,7 @@ impl AgreedContext {
 #[derive(Drop)]
 pub struct Agreement {
     /// The contexts that were accepted, in the request's order.
-    pub contexts: Listed<AgreedContext>,
+    pub contexts: Listed<AcceptedContext>,
     /// The called title, as it was received.
     pub called: [u8; 16],
     pub limit: PeerLimit,
@@ -90,7 +90,7 @@ pub struct Agreement {
 
 impl Agreement {
     /// The context with the id, if it was accepted.
-    pub fn context(&self, id: u8) -> Option<AgreedContext>
+    pub fn context(&self, id: u8) -> Option<AcceptedContext>
         ensures { result ≡ context_of self.now id }
     {
         let contexts = self.contexts.as_slice();
@@ -107,7 +107,7 @@ impl Agreement {
 
 fn accepted_contexts(
     alloc: Global,
-    contexts: &[AgreedContext],
+    contexts: &[AcceptedContext],
 ) -> Result<Listed<Accepted>, AllocError>
     ensures { IfOk result (λ accepted. accepted ≡ map assembler_context contexts.now) }
 {

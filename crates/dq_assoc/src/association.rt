@@ -4,7 +4,7 @@ ghost use Rattle.std.specs.Option.{ForSome, option_copied};
 ghost use Rattle.dq_pdu.specs.declared.fault.PduFault.{PduFault};
 ghost use Rattle.dq_pdu.specs.Writing.{IsWritable};
 ghost use Rattle.dq_dimse.specs.Assembling.{Assembly, spent_by, messages_from, assembly_from};
-ghost use Rattle.dq_dimse.specs.Holding.{Assembles, StandForAll, spent_with};
+ghost use Rattle.dq_dimse.specs.Holding.{Assembles, AllRefine, spent_with};
 ghost use Rattle.dq_dimse.specs.Received.{Message as Received};
 ghost use Rattle.dq_dimse.specs.declared.assembler.Accepted.{Accepted};
 ghost use Rattle.dq_assoc.specs.Negotiation.{agreement_of, acceptance_of, peer_limit};
@@ -225,8 +225,8 @@ fn take_pdv(
 ) -> Result<bool, AllocError>
     ensures messages { (assembly : Assembly) (before : List Received) →
         Assembles assembler.old assembly →
-        StandForAll assembler.old.accepted messages.old before →
-        OnOk result (StandForAll assembler.old.accepted messages.new
+        AllRefine assembler.old.accepted messages.old before →
+        OnOk result (AllRefine assembler.old.accepted messages.new
         (before ++ (messages_from assembly (pdv.now ∷ [])).list)) }
     ensures fault { (assembly : Assembly) → Assembles assembler.old assembly →
         IfOk result (λ is_faulty.
@@ -253,7 +253,7 @@ fn take_pdv(
 fn read_pdvs(alloc: Global, assembler: &mut Assembler, pdvs: &[Pdv]) -> Result<Read, AllocError>
     requires { spent_with assembler.old ≡ None }
     ensures messages { (assembly : Assembly) → Assembles assembler.old assembly →
-        IfOk result (λ read. StandForAll assembler.old.accepted read.messages
+        IfOk result (λ read. AllRefine assembler.old.accepted read.messages
         (messages_from assembly pdvs.now).list) }
     ensures fault { (assembly : Assembly) → Assembles assembler.old assembly →
         IfOk result (λ read. read.is_faulty ≡ is_some (messages_from assembly pdvs.now).fault) }
@@ -501,7 +501,7 @@ impl Association {
         requires { held_state self.old ≡ State.Open }
         ensures step { (association : Pure) (before : List Received) → Stands self.old association →
             let accepted = accepted_in (held_agreement self.old) in
-            StandForAll accepted messages.items before → IfOk result (λ step. IsStep accepted step
+            AllRefine accepted messages.items before → IfOk result (λ step. IsStep accepted step
             (after_messages before (step_of_inputs State.Open (inputs_from association [] fault)))) }
         ensures close { IfOk result (λ step. step.close ≡ is_closed (held_state self.new)) }
         ensures kept { IfOk result (λ step. step.close ≡ false →

@@ -20,7 +20,7 @@ ghost use Rattle.dq_assoc.specs.declared.agreement.Agreement.{Agreement};
 ghost use Rattle.dq_assoc.specs.declared.association.Held.TheVariants as code;
 ghost use Rattle.dq_assoc.specs.Holding.{WasGivenPdus, accepted_by};
 ghost use Rattle.dq_assoc.specs.declared.classes.SopClass.{SopClass};
-ghost use Rattle.dq_assoc.specs.declared.agreement.AgreedContext.{AgreedContext};
+ghost use Rattle.dq_assoc.specs.declared.agreement.AcceptedContext.{AcceptedContext};
 ghost use Rattle.dq_assoc.specs.Associations.{HeldState};
 ghost use Rattle.dq_assoc.specs.declared.association.State.{State};
 ghost use Rattle.dq_assoc.specs.declared.association.State.TheVariants.{Waiting, Open, Closed};
@@ -46,20 +46,20 @@ pub fn classes_are_named()
 /// the context, and the context offers its syntax, which is Explicit VR Little Endian wherever that
 /// is offered.
 pub fn contexts_are_negotiated()
-    ensures id { (c : ProposedContext) (a : AgreedContext) → agreed_context c ≡ Some a →
+    ensures id { (c : ProposedContext) (a : AcceptedContext) → agreed_context c ≡ Some a →
         a.id ≡ c.id }
-    ensures class { (c : ProposedContext) (a : AgreedContext) → agreed_context c ≡ Some a →
+    ensures class { (c : ProposedContext) (a : AcceptedContext) → agreed_context c ≡ Some a →
         uid_of a.class ≡ c.abstract_syntax }
-    ensures offered { (c : ProposedContext) (a : AgreedContext) → agreed_context c ≡ Some a →
+    ensures offered { (c : ProposedContext) (a : AcceptedContext) → agreed_context c ≡ Some a →
         Contains c.transfer_syntaxes (syntax_uid a.syntax) }
-    ensures explicit { (c : ProposedContext) (a : AgreedContext) → agreed_context c ≡ Some a →
+    ensures explicit { (c : ProposedContext) (a : AcceptedContext) → agreed_context c ≡ Some a →
         Contains c.transfer_syntaxes (syntax_uid Explicit) → a.syntax ≡ Explicit }
     // Every context of a class that is served is, where it offers a syntax that is taken.
     ensures accepted { (c : ProposedContext) (class : SopClass) (syntax : Syntax) →
         class_of c.abstract_syntax ≡ Some class →
         Contains c.transfer_syntaxes (syntax_uid syntax) → is_accepted c ≡ true }
     // The answer says what is agreed on: each context is answered, in order.
-    ensures answer { (c : ProposedContext) (a : AgreedContext) → agreed_context c ≡ Some a →
+    ensures answer { (c : ProposedContext) (a : AcceptedContext) → agreed_context c ≡ Some a →
         answered_context c ≡ answer_with a.id acceptance a.syntax }
     ensures refused { (c : ProposedContext) → agreed_context c ≡ None →
         (answered_context c).result ≢ acceptance }
@@ -71,7 +71,7 @@ pub fn contexts_are_negotiated()
 /// What is agreed on is the contexts that are accepted, in order.
 pub fn agreements_are_of_accepted_contexts()
     ensures contexts { (request : Request) →
-        map (λ (a : AgreedContext). Some a) (agreement_of request).contexts
+        map (λ (a : AcceptedContext). Some a) (agreement_of request).contexts
         ≡ map agreed_context (filter is_accepted request.contexts) }
     ensures ids { (request : Request) →
         context_ids (agreement_of request)

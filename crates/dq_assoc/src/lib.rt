@@ -7,7 +7,7 @@ mod classes;
 pub mod laws;
 mod negotiation;
 
-pub use agreement::{AgreedContext, Agreement, PeerLimit};
+pub use agreement::{AcceptedContext, Agreement, PeerLimit};
 pub use association::{Association, State, Step, Verdict};
 pub use classes::{Service, SopClass};
 pub use negotiation::{ContextRefusal, context_result, is_accepted};

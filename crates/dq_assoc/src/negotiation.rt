@@ -3,7 +3,7 @@ ghost use Rattle.std.specs.Prelude.{◌≡◌, map, Some, None, IfOk, IfErr, Mat
 ghost use Rattle.dq_pdu.specs.Writing.{IsWritable};
 ghost use Rattle.dq_assoc.specs.Negotiation.{syntax_uid, offers, preferred_syntax, context_result, is_accepted, answered_context, agreement_of, peer_limit, acceptance_of, is_dicom, rejection};
 
-use crate::agreement::{AgreedContext, Agreement, PeerLimit};
+use crate::agreement::{AcceptedContext, Agreement, PeerLimit};
 use crate::association::Verdict;
 use crate::classes::SopClass;
 use dq_dataset::Syntax;
@@ -65,7 +65,7 @@ fn preferred_syntax(offered: &[Listed<u8>]) -> Option<Syntax>
 
 /// What a proposed context comes to: the context that is agreed on, in Explicit VR Little Endian
 /// where that is offered, else in Implicit, or why it is refused.
-pub fn context_result(context: &ProposedContext) -> Result<AgreedContext, ContextRefusal>
+pub fn context_result(context: &ProposedContext) -> Result<AcceptedContext, ContextRefusal>
     ensures { result ≡ context_result context.now }
 {
     let Some(class) = SopClass::of(context.abstract_syntax.as_slice()) else {
@@ -74,7 +74,7 @@ pub fn context_result(context: &ProposedContext) -> Result<AgreedContext, Contex
     let Some(syntax) = preferred_syntax(context.transfer_syntaxes.as_slice()) else {
         return Err(ContextRefusal::TransferSyntaxesNotSupported);
     };
-    Ok(AgreedContext {
+    Ok(AcceptedContext {
         id: context.id,
         class,
         syntax,

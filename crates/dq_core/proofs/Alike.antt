@@ -15,12 +15,12 @@ use Rattle.dq_config.specs.declared.config.Institution.{Institution}
 use Rattle.dq_config.specs.Limits.{Limits, limits_of}
 use Rattle.dq_tables.specs.declared.row.Row.{Row}
 use Rattle.dq_tables.specs.Rows.{Record, Edit, of}
-use Rattle.dq_core.specs.Doing.{Taken}
+use Rattle.dq_core.specs.Effects.{Taken}
 use Rattle.dq_core.specs.Pages.{OpenQuery}
 use Rattle.dq_core.specs.Answers.{Progress, Answer, line_answer, then_answer, input_answers, stranger_answer}
 use Rattle.dq_core.specs.Owners.{is_sound_request}
 use Rattle.dq_core.specs.Shared.{operations_by}
-use Rattle.dq_core.specs.Doing.{agreement_after, served_answer, messages_answer, agreed_answer, taken_at_request, taken_inputs}
+use Rattle.dq_core.specs.Effects.{agreement_after, served_answer, messages_answer, agreed_answer, taken_at_request, taken_inputs}
 use Rattle.dq_core.specs.Slots.{connection_answer, AreAlike}
 use Rattle.dq_core.proofs.isolation.Requests.{nowhere-closes, unsound-line}
 

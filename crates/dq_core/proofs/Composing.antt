@@ -3,7 +3,7 @@ use Rattle.std.proofs.Common.{◌≡◌, ℕ, Bool, true, false, List, [], ◌�
 use Rattle.std.proofs.lemmas.List.{map-append, append-nil}
 use Rattle.dq_dimse.specs.declared.assembler.Accepted.{Accepted}
 use Rattle.dq_dimse.specs.declared.command.Message.{Message as HeldMessage}
-use Rattle.dq_dimse.specs.Holding.{StandForAll, StandsOn}
+use Rattle.dq_dimse.specs.Holding.{AllRefine, RefinesOn}
 use Rattle.dq_dimse.specs.Received.{Message}
 use Rattle.dq_assoc.specs.declared.agreement.Agreement.{Agreement}
 use Rattle.dq_assoc.specs.Holding.{accepted_by}
@@ -15,8 +15,8 @@ use Rattle.dq_core.specs.Pages.{OpenQuery}
 use Rattle.dq_core.specs.Answers.{Answer, then_answer}
 use Rattle.dq_core.specs.Shared.{operations_by}
 use Rattle.dq_core.specs.Stepping.{IsPartOf}
-use Rattle.dq_core.specs.Doing.{Did, DidPart, served_answer, messages_answer}
-use Rattle.dq_core.proofs.Going.{part-left}
+use Rattle.dq_core.specs.Effects.{AnswerApplied, AnswerPartlyApplied, served_answer, messages_answer}
+use Rattle.dq_core.proofs.TableCalls.{part-left}
 
 pub after-append : (xs ys : List Operation) (rows : List Row) → after_all (xs ++ ys) rows ≡ after_all ys (after_all xs rows)
 after-append [] ys rows = refl
@@ -40,16 +40,16 @@ module _ (owner : Option Institution) (a b : Answer) where
   joined : operations_by owner (a.changes ++ b.changes) ≡ first_operations ++ operations_by owner b.changes
   joined = operations-append owner a.changes b.changes
 
-  did-then : (r0 r1 r2 : List Row) (x0 x1 x2 : List ℕ) (q1 q2 : Option OpenQuery) → a.close ≡ false → Did owner a r0 r1 x0 x1 q1
-      → Did owner b r1 r2 x1 x2 q2 → Did owner (then_answer a b) r0 r2 x0 x2 q2
+  did-then : (r0 r1 r2 : List Row) (x0 x1 x2 : List ℕ) (q1 q2 : Option OpenQuery) → a.close ≡ false → AnswerApplied owner a r0 r1 x0 x1 q1
+      → AnswerApplied owner b r1 r2 x1 x2 q2 → AnswerApplied owner (then_answer a b) r0 r2 x0 x2 q2
   did-then r0 r1 r2 x0 x1 x2 q1 q2 h first later = rw h (record {
     octets = rw (later.octets, first.octets) (append_assoc x0 a.octets b.octets);
     rows = rw (joined, after-append first_operations (operations_by owner b.changes) r0, later.rows, first.rows) refl;
     query = later.query;
   })
 
-  part-first : (r0 r1 : List Row) (IsLeft : List Row → Type 0) (p : Bool) → a.close ≡ p → DidPart owner a r0 r1 IsLeft
-      → DidPart owner (then_answer a b) r0 r1 IsLeft
+  part-first : (r0 r1 : List Row) (IsLeft : List Row → Type 0) (p : Bool) → a.close ≡ p → AnswerPartlyApplied owner a r0 r1 IsLeft
+      → AnswerPartlyApplied owner (then_answer a b) r0 r1 IsLeft
   part-first r0 r1 IsLeft true h part = rw h part
   part-first r0 r1 IsLeft false h part = rw (h, joined) (record {
     done = part.done;
@@ -60,8 +60,8 @@ module _ (owner : Option Institution) (a b : Answer) where
     crash = λ r left. next-first part.later (operations_by owner b.changes) r1 r (part.crash r left);
   })
 
-  part-then : (r0 r1 r2 : List Row) (x0 x1 : List ℕ) (q1 : Option OpenQuery) (IsLeft : List Row → Type 0) → a.close ≡ false → Did owner a r0 r1 x0 x1 q1
-      → DidPart owner b r1 r2 IsLeft → DidPart owner (then_answer a b) r0 r2 IsLeft
+  part-then : (r0 r1 r2 : List Row) (x0 x1 : List ℕ) (q1 : Option OpenQuery) (IsLeft : List Row → Type 0) → a.close ≡ false → AnswerApplied owner a r0 r1 x0 x1 q1
+      → AnswerPartlyApplied owner b r1 r2 IsLeft → AnswerPartlyApplied owner (then_answer a b) r0 r2 IsLeft
   part-then r0 r1 r2 x0 x1 q1 IsLeft h first part = rw (h, joined) (record {
     done = first_operations ++ part.done;
     later = part.later;
@@ -87,11 +87,11 @@ widest part = record { done = part.done; later = part.later; whole = part.whole;
 
 -- What is left of an answer: where it is given or begun from here, the whole is given or begun.
 pub record From (owner : Option Institution) (whole rest : Answer) (r0 r1 : List Row) (x0 x1 : List ℕ) : Type 0 where
-  pub did : (r2 : List Row) (x2 : List ℕ) (q2 : Option OpenQuery) → Did owner rest r1 r2 x1 x2 q2 → Did owner whole r0 r2 x0 x2 q2
-  pub part : (r2 : List Row) (begun : DidPart owner rest r1 r2 Unleft) → DidPart owner whole r0 r2 (Left r2 begun.later)
+  pub did : (r2 : List Row) (x2 : List ℕ) (q2 : Option OpenQuery) → AnswerApplied owner rest r1 r2 x1 x2 q2 → AnswerApplied owner whole r0 r2 x0 x2 q2
+  pub part : (r2 : List Row) (begun : AnswerPartlyApplied owner rest r1 r2 Unleft) → AnswerPartlyApplied owner whole r0 r2 (Left r2 begun.later)
 
 from-part : {owner : Option Institution} {whole rest : Answer} {r0 r1 : List Row} {x0 x1 : List ℕ} → From owner whole rest r0 r1 x0 x1
-    → (r2 : List Row) (IsLeft : List Row → Type 0) → DidPart owner rest r1 r2 IsLeft → DidPart owner whole r0 r2 IsLeft
+    → (r2 : List Row) (IsLeft : List Row → Type 0) → AnswerPartlyApplied owner rest r1 r2 IsLeft → AnswerPartlyApplied owner whole r0 r2 IsLeft
 from-part from r2 IsLeft begun = part-left IsLeft (λ r left. begun.crash r left) (from.part r2 (bare begun))
 
 -- an institution's records after its operations
@@ -106,8 +106,8 @@ pub record Serves (i : Institution) (a : Agreement) (all left : List Message) (r
 -- a part of the answers to messages, from the records that there are and the C-FIND that is open
 part-of : (i : Institution) (a : Agreement) (ms : List Message) (r0 r1 : List Row) (IsLeft : List Row → Type 0) (records : List Record)
     (q0 q1 : Option OpenQuery)
-    → of i.name r0 ≡ records → q0 ≡ q1 → DidPart (Some i) (messages_answer (limits_of i) a (of i.name r0) q0 ms) r0 r1 IsLeft
-    → DidPart (Some i) (messages_answer (limits_of i) a records q1 ms) r0 r1 IsLeft
+    → of i.name r0 ≡ records → q0 ≡ q1 → AnswerPartlyApplied (Some i) (messages_answer (limits_of i) a (of i.name r0) q0 ms) r0 r1 IsLeft
+    → AnswerPartlyApplied (Some i) (messages_answer (limits_of i) a records q1 ms) r0 r1 IsLeft
 part-of i a ms r0 r1 IsLeft records q0 q1 same same_query part = rw (same, same_query) at part
 
 module _ {i : Institution} {a : Agreement} {all left : List Message} {r0 r1 : List Row} {x0 x1 : List ℕ} {q0 q1 : Option OpenQuery}
@@ -116,12 +116,12 @@ module _ {i : Institution} {a : Agreement} {all left : List Message} {r0 r1 : Li
   served m = served_answer (limits_of i) a (of i.name r1) q1 m
 
   -- none is left
-  pub serves-all : left ≡ [] → Did (Some i) (messages_answer (limits_of i) a (of i.name r0) q0 all) r0 r1 x0 x1 q1
+  pub serves-all : left ≡ [] → AnswerApplied (Some i) (messages_answer (limits_of i) a (of i.name r0) q0 all) r0 r1 x0 x1 q1
   serves-all e = serves.rest.did r1 x1 q1 (rw e (record { octets = sym (append-nil x1); rows = refl; query = refl }))
 
   module _ {m : Message} {ms : List Message} (e : left ≡ m ∷ ms) where
     -- a message was served, and those after it are left
-    pub serves-next : {r2 : List Row} {x2 : List ℕ} {q2 : Option OpenQuery} → Lens → Did (Some i) (served m) r1 r2 x1 x2 q2
+    pub serves-next : {r2 : List Row} {x2 : List ℕ} {q2 : Option OpenQuery} → Lens → AnswerApplied (Some i) (served m) r1 r2 x1 x2 q2
         → Serves i a all ms r0 r2 x0 x2 q0 q2
     serves-next {r2 = r2} {x2 = x2} {q2 = q2} lens d =
         let rest = messages_answer (limits_of i) a (served m).next.records (served m).next.query ms in
@@ -137,8 +137,8 @@ module _ {i : Institution} {a : Agreement} {all left : List Message} {r0 r1 : Li
         }
 
     -- a message was served in part
-    pub serves-part : {r2 : List Row} (IsLeft : List Row → Type 0) → DidPart (Some i) (served m) r1 r2 IsLeft
-        → DidPart (Some i) (messages_answer (limits_of i) a (of i.name r0) q0 all) r0 r2 IsLeft
+    pub serves-part : {r2 : List Row} (IsLeft : List Row → Type 0) → AnswerPartlyApplied (Some i) (served m) r1 r2 IsLeft
+        → AnswerPartlyApplied (Some i) (messages_answer (limits_of i) a (of i.name r0) q0 all) r0 r2 IsLeft
     serves-part {r2 = r2} IsLeft part = from-part serves.rest r2 IsLeft
         (rw e (part-first (Some i) (served m) (messages_answer (limits_of i) a (served m).next.records (served m).next.query ms) r1 r2 IsLeft false refl
         part))
@@ -149,37 +149,37 @@ module _ {i : Institution} {a : Agreement} {all left : List Message} {r0 r1 : Li
 pub record HasServed (i : Institution) (a : Agreement) (helds : List HeldMessage) (all : List Message) (r0 r1 : List Row) (x0 x1 : List ℕ)
     (q0 q1 : Option OpenQuery) : Type 0 where
   pub left : List Message
-  pub stand : StandForAll (accepted_by a) helds left
+  pub stand : AllRefine (accepted_by a) helds left
   pub serves : Serves i a all left r0 r1 x0 x1 q0 q1
 
 pub record Unconsed (accepted : List Accepted) (held : HeldMessage) (helds : List HeldMessage) (left : List Message) : Type 0 where
   pub message : Message
   pub messages : List Message
   pub parts : left ≡ message ∷ messages
-  pub on : StandsOn accepted held message
-  pub stand : StandForAll accepted helds messages
+  pub on : RefinesOn accepted held message
+  pub stand : AllRefine accepted helds messages
 
-unconsed : (accepted : List Accepted) (held : HeldMessage) (helds : List HeldMessage) (left : List Message) → StandForAll accepted (held ∷ helds) left
+unconsed : (accepted : List Accepted) (held : HeldMessage) (helds : List HeldMessage) (left : List Message) → AllRefine accepted (held ∷ helds) left
     → Unconsed accepted held helds left
 unconsed accepted held helds [] stand = absurd stand
 unconsed accepted held helds (m ∷ ms) stand = record { message = m; messages = ms; parts = refl; on = stand.0; stand = stand.1 }
 
-pub none_stands : (accepted : List Accepted) (left : List Message) → StandForAll accepted [] left → left ≡ []
+pub none_stands : (accepted : List Accepted) (left : List Message) → AllRefine accepted [] left → left ≡ []
 none_stands accepted [] stand = refl
 none_stands accepted (m ∷ ms) stand = absurd stand
 
 module _ {i : Institution} {a : Agreement} {helds : List HeldMessage} {all : List Message} {r0 r1 : List Row} {x0 x1 : List ℕ}
     {q0 q1 : Option OpenQuery} (has : HasServed i a helds all r0 r1 x0 x1 q0 q1) where
-  pub held-all : helds ≡ [] → Did (Some i) (messages_answer (limits_of i) a (of i.name r0) q0 all) r0 r1 x0 x1 q1
+  pub held-all : helds ≡ [] → AnswerApplied (Some i) (messages_answer (limits_of i) a (of i.name r0) q0 all) r0 r1 x0 x1 q1
   held-all e =
-      serves-all has.serves (none_stands (accepted_by a) has.left (subst (λ (hs : List HeldMessage). StandForAll (accepted_by a) hs has.left) e has.stand))
+      serves-all has.serves (none_stands (accepted_by a) has.left (subst (λ (hs : List HeldMessage). AllRefine (accepted_by a) hs has.left) e has.stand))
 
   module _ {held : HeldMessage} {others : List HeldMessage} (e : helds ≡ held ∷ others) where
     next-held : Unconsed (accepted_by a) held others has.left
-    next-held = unconsed (accepted_by a) held others has.left (subst (λ (hs : List HeldMessage). StandForAll (accepted_by a) hs has.left) e has.stand)
+    next-held = unconsed (accepted_by a) held others has.left (subst (λ (hs : List HeldMessage). AllRefine (accepted_by a) hs has.left) e has.stand)
 
     pub held-next : {r2 : List Row} {x2 : List ℕ} {q2 : Option OpenQuery} → Lens
-        → ((m : Message) → StandsOn (accepted_by a) held m → Did (Some i) (served_answer (limits_of i) a (of i.name r1) q1 m) r1 r2 x1 x2 q2)
+        → ((m : Message) → RefinesOn (accepted_by a) held m → AnswerApplied (Some i) (served_answer (limits_of i) a (of i.name r1) q1 m) r1 r2 x1 x2 q2)
         → HasServed i a others all r0 r2 x0 x2 q0 q2
     held-next lens d = record {
       left = next-held.messages;
@@ -188,8 +188,8 @@ module _ {i : Institution} {a : Agreement} {helds : List HeldMessage} {all : Lis
     }
 
     pub held-part : {r2 : List Row} (IsLeft : List Row → Type 0)
-        → ((m : Message) → StandsOn (accepted_by a) held m → DidPart (Some i) (served_answer (limits_of i) a (of i.name r1) q1 m) r1 r2 IsLeft)
-        → DidPart (Some i) (messages_answer (limits_of i) a (of i.name r0) q0 all) r0 r2 IsLeft
+        → ((m : Message) → RefinesOn (accepted_by a) held m → AnswerPartlyApplied (Some i) (served_answer (limits_of i) a (of i.name r1) q1 m) r1 r2 IsLeft)
+        → AnswerPartlyApplied (Some i) (messages_answer (limits_of i) a (of i.name r0) q0 all) r0 r2 IsLeft
     held-part IsLeft part = serves-part has.serves next-held.parts IsLeft (part next-held.message next-held.on)
 
 -- ---- what was taken

@@ -25,8 +25,8 @@ use Rattle.dq_core.specs.Pages.{OpenQuery}
 use Rattle.dq_core.specs.Queries.{at_hand, to_be_found, status_of, optional_of, found_left, open_query_of, records_since}
 use Rattle.dq_core.specs.Services.{responses}
 use Rattle.dq_core.specs.Slots.{IsBegunAt, query_at, is_home, IsAt, AreAt}
-use Rattle.dq_core.specs.Tallies.{institution_index}
-use Rattle.dq_core.proofs.Tallying.{listed-place}
+use Rattle.dq_core.specs.OpenAssociations.{institution_index}
+use Rattle.dq_core.proofs.OpenAssociations.{listed-place}
 
 -- ---- one query
 
@@ -37,7 +37,7 @@ dropped (x ∷ log) told (suc since) le = dropped log told since (omega (arith, 
 
 found_alike : (one other : List Record) → lasting one ≡ lasting other → (it : Answers) → to_be_found one it ≡ to_be_found other it
 found_alike one other same (answers.Found queue) = refl
-found_alike one other same (answers.Sought lazy) = left_by lazy.search one other same
+found_alike one other same (answers.Lazy lazy) = left_by lazy.search one other same
 
 found_left-alike : (one other : List Record) → lasting one ≡ lasting other → (it : Answers) → found_left one it ≡ found_left other it
 found_left-alike one other same it =

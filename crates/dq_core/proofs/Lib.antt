@@ -1,12 +1,12 @@
 pub mod isolation
-pub mod Standing
+pub mod Refinement
 pub mod Running
 pub mod Composing
 pub mod Sending
 pub mod Serving
-pub mod Going
+pub mod TableCalls
 pub mod Slotted
-pub mod Tallying
+pub mod OpenAssociations
 pub mod Alike
 pub mod Owning
 pub mod Brief

@@ -14,8 +14,8 @@ use Rattle.dq_archive.proofs.Leaving.{none_left_out}
 use Rattle.dq_core.specs.declared.pages.OpenQuery.{OpenQuery as HeldQuery}
 use Rattle.dq_core.specs.declared.fault.Fault.{Fault}
 use Rattle.dq_core.specs.Pages.{OpenQuery}
-use Rattle.dq_core.specs.Stepping.{Goes}
-use Rattle.dq_core.proofs.Going.{settled-then}
+use Rattle.dq_core.specs.Stepping.{HealthAfter}
+use Rattle.dq_core.proofs.TableCalls.{settled-then}
 use Rattle.dq_core.specs.Queries.{open_query_of, open_query_in, records_since, query_then}
 
 pub records_then : {T : Type 0} (state : T → State) (tables : T) (institution : Institution) (past : Past T) (later : List Added) → past.tables.now ≡ tables
@@ -37,7 +37,7 @@ pub settled-read : {A : Type 0} {old new : State} {r : Result A TableFault} → 
 settled-read reads honest settled = record { only = λ r left. settled.only r (reads.crash honest r left) ∙ sym (reads.same honest) }
 
 -- and what follows it
-pub goes-after-read : {A B : Type 0} {old mid new : State} {x : A} {r : Result B Fault} → Reads old mid (Ok x) → Goes mid new r → Goes old new r
+pub goes-after-read : {A B : Type 0} {old mid new : State} {x : A} {r : Result B Fault} → Reads old mid (Ok x) → HealthAfter mid new r → HealthAfter old new r
 goes-after-read {old = old} {mid = mid} {new = new} {r = r} first later = record {
   was_honest = λ h. first.goes.was_honest (later.was_honest h);
   told = later.told;

@@ -14,7 +14,7 @@ use Rattle.dq_assoc.specs.Negotiation.{agreement_of}
 use Rattle.dq_assoc.specs.Table.{Input, Requested}
 use Rattle.dq_assoc.specs.Inputs.{inputs_of, inputs}
 use Rattle.dq_assoc.specs.After.{AssociationAfter, state_of, is_closed, agreement_in, association_from, inputs_from}
-use Rattle.dq_assoc.proofs.Standing.{stands_state, stands_agreement}
+use Rattle.dq_assoc.proofs.HeldAssociations.{stands_state, stands_agreement}
 use Rattle.dq_config.specs.declared.config.Institution.{Institution}
 use Rattle.dq_config.specs.Routing.{institution_routed, institution_named}
 use Rattle.dq_core.specs.declared.slot.Slot.{Slot}

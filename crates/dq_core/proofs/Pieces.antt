@@ -19,19 +19,19 @@ use Rattle.dq_assoc.specs.declared.association.Verdict.TheVariants.{Nowhere}
 use Rattle.dq_assoc.specs.Negotiation.{agreement_of}
 use Rattle.dq_assoc.specs.Table.{Input}
 use Rattle.dq_assoc.specs.Inputs.{inputs_of, inputs}
-use Rattle.dq_dimse.specs.Holding.{StandForAll}
+use Rattle.dq_dimse.specs.Holding.{AllRefine}
 use Rattle.dq_assoc.specs.After.{AssociationAfter, state_of, is_closed, agreement_in, association_from, inputs_from}
 use Rattle.dq_assoc.specs.Holding.{Stands, accepted_in, held_agreement, held_state}
-use Rattle.dq_assoc.proofs.Standing.{stands_state, stands_agreement}
+use Rattle.dq_assoc.proofs.HeldAssociations.{stands_state, stands_agreement}
 use Rattle.dq_config.specs.declared.config.Institution.{Institution}
 use Rattle.dq_core.specs.declared.slot.Slot.{Slot}
 use Rattle.dq_core.specs.declared.slot.Taken.{Taken as HeldTaken}
-use Rattle.dq_core.specs.Doing.{Taken}
+use Rattle.dq_core.specs.Effects.{Taken}
 use Rattle.dq_core.specs.Answers.{request_in, progress_of, inputs_added, verdict_at}
 use Rattle.dq_core.specs.Connections.{Connection, with_piece}
 use Rattle.dq_core.specs.Owners.{owner, live_of}
 use Rattle.dq_core.specs.Shared.{World, answer_by}
-use Rattle.dq_core.specs.Doing.{agreement_after, taken_inputs}
+use Rattle.dq_core.specs.Effects.{agreement_after, taken_inputs}
 use Rattle.dq_core.specs.Slots.{home_of, StandsAt, IsHeld, IsTaken, Took, verdict_for, owner_with, routed_first, connection_answer, AreAlike}
 use Rattle.dq_core.proofs.Composing.{none_stands}
 use Rattle.dq_core.proofs.isolation.Streams.{AddsInputs, owner-stays}
@@ -248,7 +248,7 @@ module _ (institutions : List Institution) (laws : Laws institutions) (world : W
       no_messages : (t.step.messages ≡ []) ⊎ (held_agreement new.association ≡ agreement_after (agreement_in first) (inputs_from first pdus fault))
           → (given.step.messages ≡ []) ⊎ (held_agreement new.association ≡ agreement_after (agreement_in first) (inputs_from first pdus fault))
       no_messages (inl none) = inl (none_stands (accepted_in (held_agreement new.association)) given.step.messages
-          (subst (λ helds. StandForAll (accepted_in (held_agreement new.association)) helds given.step.messages) none is_given.step.messages))
+          (subst (λ helds. AllRefine (accepted_in (held_agreement new.association)) helds given.step.messages) none is_given.step.messages))
       no_messages (inr agreed) = inr agreed
 
       alike-answer : Counts institutions world count → let o = owner institutions (c.stream ++ piece) in

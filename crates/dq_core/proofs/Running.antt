@@ -16,13 +16,13 @@ use Rattle.dq_core.specs.Shared.{World, turn, world_after_turn, replies_from, fi
 use Rattle.dq_core.specs.Histories.{is_above, newest_after, rises_from, is_well_formed_history}
 use Rattle.dq_core.specs.Owners.{HaveOwnNames}
 use Rattle.dq_core.specs.Isolation.{Begins}
-use Rattle.dq_core.specs.Stepping.{Opens, TakesNoMemory, Goes, MayLeaveAfter, IsPartOf}
+use Rattle.dq_core.specs.Stepping.{Opens, TakesNoMemory, HealthAfter, MayLeaveAfter, IsPartOf}
 use Rattle.dq_core.specs.Runs.{IsRun, IsLeftOf, FaultsAfter}
-use Rattle.dq_core.specs.Standing.{Standing, StandsFor}
+use Rattle.dq_core.specs.ServerView.{ServerView, Refines}
 use Rattle.dq_core.proofs.Composing.{after-append}
-use Rattle.dq_core.proofs.Going.{ok_of, goes-then, goes-start}
+use Rattle.dq_core.proofs.TableCalls.{ok_of, goes-then, goes-start}
 use Rattle.dq_core.proofs.isolation.Rising.{both-true}
-use Rattle.dq_core.proofs.Standing.{replies-append, newest-append}
+use Rattle.dq_core.proofs.Refinement.{replies-append, newest-append}
 
 rises-later : (newest : Option ℕ) (xs ys : List Event) → IsTrue (rises_from newest (xs ++ ys)) → IsTrue (rises_from (newest_after newest xs) ys)
 rises-later newest [] ys h = h
@@ -99,30 +99,30 @@ abbrev pub went : Result (Unit {0}) Fault
 went = Ok tt
 
 -- Events that were answered so far, and those that are left.
-pub record RanSo {Tables : Type 0} (state : Tables → State) (first now : Standing Tables)
+pub record RanSo {Tables : Type 0} (state : Tables → State) (first now : ServerView Tables)
     (given : List Reply) (all done left : List Event) : Type 0 where
   pub parts : done ++ left ≡ all
   pub count : length given ≡ length done
   pub unspent : now.spent ≡ false
   pub newest : now.newest ≡ newest_after first.newest done
   pub institutions : now.institutions ≡ first.institutions
-  pub goes : Goes (state first.tables) (state now.tables) went
-  pub stands : (rows : List Row) → StandsFor state rows first [] → (state now.tables).honest → StandsFor state rows now done
-  pub replied : (rows : List Row) → StandsFor state rows first [] → (state now.tables).honest → given ≡ replies first.institutions rows done
+  pub goes : HealthAfter (state first.tables) (state now.tables) went
+  pub stands : (rows : List Row) → Refines state rows first [] → (state now.tables).honest → Refines state rows now done
+  pub replied : (rows : List Row) → Refines state rows first [] → (state now.tables).honest → given ≡ replies first.institutions rows done
 
 -- What a step gives, where it gives a reply.
-pub record Stepped {Tables : Type 0} (state : Tables → State) (now next : Standing Tables)
+pub record Stepped {Tables : Type 0} (state : Tables → State) (now next : ServerView Tables)
     (event : Event) (reply : Reply) : Type 0 where
-  pub replied : (rows : List Row) (events : List Event) → StandsFor state rows now events → (state next.tables).honest
+  pub replied : (rows : List Row) (events : List Event) → Refines state rows now events → (state next.tables).honest
       → reply ≡ (turn now.institutions (world_after now.institutions rows events) event).reply
-  pub stands : (rows : List Row) (events : List Event) → StandsFor state rows now events → (state next.tables).honest
-      → StandsFor state rows next (events ++ event ∷ [])
+  pub stands : (rows : List Row) (events : List Event) → Refines state rows now events → (state next.tables).honest
+      → Refines state rows next (events ++ event ∷ [])
   pub institutions : next.institutions ≡ now.institutions
   pub newest : next.newest ≡ newest_after now.newest (event ∷ [])
   pub unspent : next.spent ≡ false
-  pub goes : Goes (state now.tables) (state next.tables) (ok_of reply)
+  pub goes : HealthAfter (state now.tables) (state next.tables) (ok_of reply)
 
-module _ {Tables : Type 0} {state : Tables → State} {first now : Standing Tables}
+module _ {Tables : Type 0} {state : Tables → State} {first now : ServerView Tables}
     {given : List Reply} {all done left : List Event} (ran : RanSo state first now given all done left)
     {event : Event} {later : List Event} (e : left ≡ event ∷ later) where
   -- The next event opens a number that is above the others.
@@ -132,20 +132,20 @@ module _ {Tables : Type 0} {state : Tables → State} {first now : Standing Tabl
 
   -- A fault within the next event: the first of its operations were made.
   pub ran-part : (next : Tables) → ((state next).honest → (state now.tables).honest)
-      → ((rows : List Row) (events : List Event) → StandsFor state rows now events → (state next).honest
+      → ((rows : List Row) (events : List Event) → Refines state rows now events → (state next).honest
       → (let world = world_after now.institutions rows events in
       IsPartOf (turn now.institutions world event).operations world.rows (state next).rows (MayLeaveAfter (state now.tables) (state next))))
-      → (rows : List Row) → StandsFor state rows first [] → (state next).honest → IsRun first.institutions rows all given (state next).rows
+      → (rows : List Row) → Refines state rows first [] → (state next).honest → IsRun first.institutions rows all given (state next).rows
   ran-part next was part rows f h = rw (← ran.parts, e) (run-part first.institutions rows done event later given (state next).rows
       (MayLeaveAfter (state now.tables) (state next))
       (ran.replied rows f (was h)) (rw (← ran.institutions) (part rows done (ran.stands rows f (was h)) h)))
 
   -- and what a crash leaves
   pub ran-left : (next : Tables) → ((state next).honest → (state now.tables).honest)
-      → ((rows : List Row) (events : List Event) → StandsFor state rows now events → (state next).honest
+      → ((rows : List Row) (events : List Event) → Refines state rows now events → (state next).honest
       → (let world = world_after now.institutions rows events in
       IsPartOf (turn now.institutions world event).operations world.rows (state next).rows (MayLeaveAfter (state now.tables) (state next))))
-      → (rows : List Row) → StandsFor state rows first [] → (state next).honest → IsSettled (state first.tables)
+      → (rows : List Row) → Refines state rows first [] → (state next).honest → IsSettled (state first.tables)
       → (r : List Row) → (state next).may_leave r → IsLeftOf first.institutions rows all given (state next).rows r
   ran-left next was part rows f h settled r left = rw (← ran.parts, e) (run-left first.institutions rows done event later given (state next).rows
       (MayLeaveAfter (state now.tables) (state next))
@@ -154,14 +154,14 @@ module _ {Tables : Type 0} {state : Tables → State} {first now : Standing Tabl
 
   -- A fault within the next event, which is none that takes no memory.
   pub ran-faulted : (next : Tables) → ((state next).honest → (state now.tables).honest)
-      → ((rows : List Row) (events : List Event) → StandsFor state rows now events
+      → ((rows : List Row) (events : List Event) → Refines state rows now events
       → TakesNoMemory (world_after now.institutions rows events).connections event → ⊥)
-      → (rows : List Row) → StandsFor state rows first [] → (state next).honest → FaultsAfter first.institutions rows all (length given)
+      → (rows : List Row) → Refines state rows first [] → (state next).honest → FaultsAfter first.institutions rows all (length given)
   ran-faulted next was loud rows f h =
       rw (← ran.parts, e, ran.count, take-append_seam done (event ∷ later), drop-append_seam done (event ∷ later))
       (rw (← ran.institutions) (loud rows done (ran.stands rows f (was h))))
 
-  module _ {next : Standing Tables} {reply : Reply} (stepped : Stepped state now next event reply) where
+  module _ {next : ServerView Tables} {reply : Reply} (stepped : Stepped state now next event reply) where
     -- one event more, whose reply was added
     pub ran-next : {grown : List Reply} → grown ≡ given ++ reply ∷ [] → RanSo state first next grown all (done ++ event ∷ []) later
     ran-next m = record {

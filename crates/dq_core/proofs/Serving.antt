@@ -5,10 +5,10 @@ use Rattle.std.proofs.lemmas.Bool.Decides.{nat_tests}
 use Rattle.dq_dimse.specs.declared.assembler.Accepted.{Accepted}
 use Rattle.dq_dimse.specs.declared.command.Command.{Command}
 use Rattle.dq_dimse.specs.declared.command.Message.{Message as HeldMessage}
-use Rattle.dq_dimse.specs.Holding.{StandsFor, StandsOn, accepted_with}
+use Rattle.dq_dimse.specs.Holding.{Refines, RefinesOn, accepted_with}
 use Rattle.dq_dimse.specs.Received.{Message}
 use Rattle.dq_dimse.specs.CommandFields.{c_cancel}
-use Rattle.dq_assoc.specs.declared.agreement.AgreedContext.{AgreedContext}
+use Rattle.dq_assoc.specs.declared.agreement.AcceptedContext.{AcceptedContext}
 use Rattle.dq_assoc.specs.declared.agreement.Agreement.{Agreement}
 use Rattle.dq_assoc.specs.Holding.{accepted_by, assembler_context}
 use Rattle.dq_assoc.specs.Negotiation.{context_of}
@@ -20,20 +20,20 @@ use Rattle.dq_tables.specs.Rows.{of, by, after, Operation, after_all}
 use Rattle.dq_core.specs.Services.{responses, message_outcome, served}
 use Rattle.dq_core.specs.Pages.{OpenQuery, answered_message_id, rest, page, cancel_reaction, reaction}
 use Rattle.dq_core.specs.Stepping.{IsPartOf}
-use Rattle.dq_core.specs.Doing.{Did, DidPart, served_answer}
+use Rattle.dq_core.specs.Effects.{AnswerApplied, AnswerPartlyApplied, served_answer}
 
 -- the context that is found under an id has it
-found_id : (id : ℕ) (cs : List AgreedContext) (c : AgreedContext) → find (λ (x : AgreedContext). x.id == id) cs ≡ Some c → c.id ≡ id
+found_id : (id : ℕ) (cs : List AcceptedContext) (c : AcceptedContext) → find (λ (x : AcceptedContext). x.id == id) cs ≡ Some c → c.id ≡ id
 found_id id [] c e = cc
 found_id id (d ∷ cs) c e = grind (arith, nat_tests, found_id id cs c)
 
 module _ (i : Institution) (a : Agreement) (m : Message) where
   -- what is done for the message while a C-FIND is open, or none
   abbrev Does : Option OpenQuery → List Row → List Row → List ℕ → List ℕ → Option OpenQuery → Type 0
-  Does query r0 r1 x0 x1 next = Did (Some i) (served_answer (limits_of i) a (of i.name r0) query m) r0 r1 x0 x1 next
+  Does query r0 r1 x0 x1 next = AnswerApplied (Some i) (served_answer (limits_of i) a (of i.name r0) query m) r0 r1 x0 x1 next
 
   abbrev DoesPart : Option OpenQuery → List Row → List Row → (List Row → Type 0) → Type 0
-  DoesPart query r0 r1 IsLeft = DidPart (Some i) (served_answer (limits_of i) a (of i.name r0) query m) r0 r1 IsLeft
+  DoesPart query r0 r1 IsLeft = AnswerPartlyApplied (Some i) (served_answer (limits_of i) a (of i.name r0) query m) r0 r1 IsLeft
 
   -- a message that has no response
   stray-by : (r : List Row) (x : List ℕ) (b : Bool) → (m.command.code == c_cancel) ≡ b → context_of a m.context ≡ None → Does None r r x x None
@@ -44,7 +44,7 @@ module _ (i : Institution) (a : Agreement) (m : Message) where
   pub did-stray : (r : List Row) (x : List ℕ) → context_of a m.context ≡ None → Does None r r x x None
   did-stray r x e = stray-by r x (m.command.code == c_cancel) refl e
 
-  module _ (c : AgreedContext) (e : context_of a m.context ≡ Some c) where
+  module _ (c : AcceptedContext) (e : context_of a m.context ≡ Some c) where
     pub did-cancel : (r : List Row) (x : List ℕ) → (m.command.code == c_cancel) ≡ true → Does None r r x x None
     unfolding served reaction
     did-cancel r x h = rw h (record { octets = sym (append-nil x); rows = refl; query = refl })
@@ -129,35 +129,35 @@ module _ (i : Institution) (a : Agreement) (m : Message) where
 
 -- ---- messages that are held
 
-accepted_step : (id : ℕ) (c : AgreedContext) (found : Option Accepted) (other : Option AgreedContext) (same : Bool)
+accepted_step : (id : ℕ) (c : AcceptedContext) (found : Option Accepted) (other : Option AcceptedContext) (same : Bool)
     → found ≡ option_map assembler_context other
     → (if same then Some (assembler_context c) else found) ≡ option_map assembler_context (if same then Some c else other)
 accepted_step id c found other true e = refl
 accepted_step id c found other false e = e
 
-accepted_is : (id : ℕ) (contexts : List AgreedContext)
-    → accepted_with id (map assembler_context contexts) ≡ option_map assembler_context (find (λ (c : AgreedContext). c.id == id) contexts)
+accepted_is : (id : ℕ) (contexts : List AcceptedContext)
+    → accepted_with id (map assembler_context contexts) ≡ option_map assembler_context (find (λ (c : AcceptedContext). c.id == id) contexts)
 accepted_is id [] = refl
 accepted_is id (c ∷ cs) =
-    accepted_step id c (accepted_with id (map assembler_context cs)) (find (λ (c : AgreedContext). c.id == id) cs) (c.id == id) (accepted_is id cs)
+    accepted_step id c (accepted_with id (map assembler_context cs)) (find (λ (c : AcceptedContext). c.id == id) cs) (c.id == id) (accepted_is id cs)
 
-module _ (a : Agreement) (held : HeldMessage) (m : Message) (on : StandsOn (accepted_by a) held m) where
-  pub context_stands : (found : Option AgreedContext) → context_of a held.context ≡ found → context_of a m.context ≡ found
+module _ (a : Agreement) (held : HeldMessage) (m : Message) (on : RefinesOn (accepted_by a) held m) where
+  pub context_stands : (found : Option AcceptedContext) → context_of a held.context ≡ found → context_of a m.context ≡ found
   context_stands found e = ap (context_of a) (sym on.stands.context) ∙ e
 
   -- the context that the message is on
-  pub stands_there : (c : AgreedContext) → context_of a held.context ≡ Some c → StandsFor c.syntax held m
+  pub stands_there : (c : AcceptedContext) → context_of a held.context ≡ Some c → Refines c.syntax held m
   stands_there c e =
       let there : Some on.context ≡ Some (assembler_context c) =
       sym on.found ∙ accepted_is m.context a.contexts ∙ ap (option_map assembler_context) (context_stands (Some c) e) in
       let same : on.context ≡ assembler_context c = cc in
-      subst (λ (x : Accepted). StandsFor x.syntax held m) same on.stands
+      subst (λ (x : Accepted). Refines x.syntax held m) same on.stands
 
   pub code_stands : (b : Bool) → (held.command.code == c_cancel) ≡ b → (m.command.code == c_cancel) ≡ b
   code_stands b e = ap (λ (k : Command). k.code == c_cancel) (sym on.stands.command) ∙ e
 
   -- the responses to it are those to the message
-  pub unsent_stands : (c : AgreedContext) (found : Found) (query : OpenQuery)
+  pub unsent_stands : (c : AcceptedContext) (found : Found) (query : OpenQuery)
       → query ≡ record { context = c.id; limit = a.limit; left = responses c held.command found }
       → query ≡ record { context = c.id; limit = a.limit; left = responses c m.command found }
   unsent_stands c found query e =

@@ -9,7 +9,7 @@ use Rattle.dq_pdu.specs.declared.fault.PduFault.{PduFault}
 use Rattle.dq_pdu.specs.Roles.{role_of}
 use Rattle.dq_dimse.specs.declared.assembler.Accepted.{Accepted}
 use Rattle.dq_dimse.specs.declared.command.Message.{Message as HeldMessage}
-use Rattle.dq_dimse.specs.Holding.{StandForAll}
+use Rattle.dq_dimse.specs.Holding.{AllRefine}
 use Rattle.dq_dimse.proofs.Assemblies.{assembly_from-nil}
 use Rattle.dq_assoc.specs.Associations.{HeldState}
 use Rattle.dq_assoc.specs.Associations as held
@@ -28,7 +28,7 @@ use Rattle.dq_assoc.specs.Inputs.{inputs_after}
 use Rattle.dq_assoc.specs.Negotiation.{agreement_of, context_ids}
 use Rattle.dq_assoc.specs.Steps.{step_of, open_outcome, step_of_inputs}
 use Rattle.dq_config.specs.declared.config.Institution.{Institution}
-use Rattle.dq_core.specs.Doing.{Taken, taken_at_request, taken_inputs}
+use Rattle.dq_core.specs.Effects.{Taken, taken_at_request, taken_inputs}
 use Rattle.dq_core.specs.Slots.{IsTaken}
 use Rattle.dq_core.proofs.isolation.Requests.{nowhere-closes}
 
@@ -85,7 +85,7 @@ taken_alone accepted verdict association pdus fault opening held_step step e is 
 -- ---- a request
 
 -- what stands for no message is none
-pub none_held : (accepted : List Accepted) (helds : List HeldMessage) → StandForAll accepted helds [] → helds ≡ []
+pub none_held : (accepted : List Accepted) (helds : List HeldMessage) → AllRefine accepted helds [] → helds ≡ []
 none_held accepted [] stand = refl
 none_held accepted (held ∷ helds) stand = absurd stand
 

@@ -14,7 +14,7 @@ use Rattle.dq_core.specs.Services.{ConsoleOrder, console_outcome}
 use Rattle.dq_core.specs.Shared.{World, first_world, order_turn}
 use Rattle.dq_core.specs.declared.event.Reply.{Reply}
 use Rattle.dq_core.specs.declared.fault.Fault.{Fault}
-use Rattle.dq_core.specs.Doing.{Orders}
+use Rattle.dq_core.specs.Effects.{Orders}
 use Rattle.dq_core.specs.Slots.{AreHeld, Turned}
 use Rattle.dq_core.proofs.Brief.{told_brief, order_brief}
 use Rattle.dq_core.proofs.Framing.{all-kept, all-stay}

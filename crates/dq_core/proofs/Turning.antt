@@ -30,9 +30,9 @@ use Rattle.dq_core.specs.declared.event.Reply.TheVariants as reply
 use Rattle.dq_core.specs.declared.connections.Connections.{Connections}
 use Rattle.dq_core.specs.declared.slot.Slot.{Slot}
 use Rattle.dq_core.specs.declared.additions.Additions.{Additions}
-use Rattle.dq_core.specs.declared.tally.Tally.{Tally}
+use Rattle.dq_core.specs.declared.open_associations.OpenAssociations.{OpenAssociations}
 use Rattle.dq_core.specs.declared.slot.Taken.{Taken as HeldTaken}
-use Rattle.dq_core.specs.Doing.{Taken}
+use Rattle.dq_core.specs.Effects.{Taken}
 use Rattle.dq_core.specs.declared.pages.OpenQuery.{OpenQuery as HeldQuery}
 use Rattle.dq_core.specs.Pages.{OpenQuery, Page, next_page}
 use Rattle.dq_core.specs.Queries.{query_by, IsBegun, IsToldBy}
@@ -40,17 +40,17 @@ use Rattle.dq_core.specs.Additions.{log_at, log_of, with_log, owner_place}
 use Rattle.dq_core.specs.Answers.{Answer, inputs_added, after_piece}
 use Rattle.dq_core.specs.Connections.{Connection, new_connection, with_piece, with_query, is_pending, connection_in, without, with_connection}
 use Rattle.dq_core.specs.Stepping.{IsPartOf}
-use Rattle.dq_core.specs.Doing.{Did, DidPart}
+use Rattle.dq_core.specs.Effects.{AnswerApplied, AnswerPartlyApplied}
 use Rattle.dq_core.specs.Owners.{owner, live_of}
 use Rattle.dq_core.specs.Histories.{is_above}
-use Rattle.dq_core.specs.Tallies.{institution_index, tally_of_name, IsTallied, one_less, one_more, retallied_by}
+use Rattle.dq_core.specs.OpenAssociations.{institution_index, tally_of_name, IsTallied, one_less, one_more, retallied_by}
 use Rattle.dq_core.specs.Shared.{World, turn, owner_turn, pull_turn, answer_by, operations_by}
 use Rattle.dq_core.specs.Slots.{StandsAt, has_slot, has_query, has_query_at, has_search, IsHeld, IsBegunAt, query_at, Asks, AreAt, AreHeld, Turned, IsTaken, Took, IsUnsearched, is_searching, connection_answer, home_of, is_home}
 use Rattle.dq_core.proofs.Framing.{Kept, all-kept, unsearched-kept, all-stay, own-log, other-log, same-many}
 use Rattle.dq_core.proofs.OpenQueries.{IsFree, Comes, comes, Stays, goes-on}
 use Rattle.dq_core.proofs.Owning.{Waits, no-home, counted-held}
 use Rattle.dq_core.proofs.Slotted.{has_number, Found, found, found-none, left, changed, opened, inserts-last, all-below, none-above, all-left, same-length}
-use Rattle.dq_core.proofs.Tallying.{bit, live-left, live-changed, live-opened, live-within, ended-anywhere, retally}
+use Rattle.dq_core.proofs.OpenAssociations.{bit, live-left, live-changed, live-opened, live-within, ended-anywhere, retally}
 
 -- a slot of a connection that was just opened
 new-held : (institutions : List Institution) (slot : Slot) (number : ℕ) → slot.number ≡ number → InboxAfter [] slot.inbox
@@ -580,7 +580,7 @@ module _ (institutions : List Institution) (world : World) (number : ℕ) where
             let ended : is ≡ false = it.stays ∙ ap (λ (b : Bool). is_some new.home && not b) close ∙ and-false (is_some new.home) in
             closed-held small waits after (λ other d. u.others other d ∙ it.others other d)
             (p ∙ ap (λ (ps : BTreeMap ℕ ℕ). remove_entry (has_number number) ps.entries) it.places) o (w ∙ it.newest)
-            (ap (λ (y : Tally). y.counts.items) y ∙ it.tally ∙ ap (retallied_by institutions before.tally.counts.items q (is_some old.home)) ended)
+            (ap (λ (y : OpenAssociations). y.counts.items) y ∙ it.tally ∙ ap (retallied_by institutions before.tally.counts.items q (is_some old.home)) ended)
             (ap (λ (x : Additions). x.logs.items) l ∙ it.logs_are)
 
         pub stays-open : length before.places.entries < 2 ^ 63 → Waits → (mid : Connections) (is : Bool) → IsMiddle mid is
@@ -593,7 +593,7 @@ module _ (institutions : List Institution) (world : World) (number : ℕ) where
         -- a piece was taken, and answered
         pub piece-taken : (agreed : Option Agreement) (was : List Row) → agreed ≡ held_agreement new.association → was ≡ world.rows
             → (after : Connections) (octets : List ℕ) (r : Reply)
-            → ((x : Taken) → IsTaken agreed t x → Did q (connection_answer q was agreed (query_by q was log new.query) x) was rows [] octets given)
+            → ((x : Taken) → IsTaken agreed t x → AnswerApplied q (connection_answer q was agreed (query_by q was log new.query) x) was rows [] octets given)
             → (t.step.close ≡ true → AreHeld institutions rows after (without number world.connections))
             → (t.step.close ≡ false → AreHeld institutions rows after (with_connection (with_piece at.connection piece given) world.connections))
             → r ≡ reply.Octets number octets t.step.close
@@ -617,7 +617,7 @@ module _ (institutions : List Institution) (world : World) (number : ℕ) where
       -- a piece was taken, and answered in part
       pub piece-part : (agreed : Option Agreement) (was rows : List Row) → agreed ≡ held_agreement new.association → was ≡ world.rows
           → (log : List Added) → IsLog log → (IsLeft : List Row → Type 0)
-          → ((x : Taken) → IsTaken agreed t x → DidPart q (connection_answer q was agreed (query_by q was log new.query) x) was rows IsLeft)
+          → ((x : Taken) → IsTaken agreed t x → AnswerPartlyApplied q (connection_answer q was agreed (query_by q was log new.query) x) was rows IsLeft)
           → IsPartOf (turn institutions world (event.Piece number piece)).operations world.rows rows IsLeft
       piece-part agreed was rows agreed_is was_is log is_log IsLeft did =
           let same_query : query_by q was log new.query ≡ at.connection.query =

@@ -3,7 +3,7 @@
 use Rattle.std.specs.Prelude.{ℕ, List, [], Option, Some, None, slice_index_or, slice_set}
 use Rattle.dq_config.specs.declared.config.Institution.{Institution}
 use Rattle.dq_archive.specs.declared.later.Added.{Added}
-use Rattle.dq_core.specs.Tallies.{institution_index}
+use Rattle.dq_core.specs.OpenAssociations.{institution_index}
 
 abbrev pub log_at : List (List Added) → Option ℕ → List Added
 log_at logs None = []

@@ -17,11 +17,11 @@ pub mod Conversations
 pub mod Histories
 pub mod Faults
 pub mod Stepping
-pub mod Doing
-pub mod Tallies
+pub mod Effects
+pub mod OpenAssociations
 pub mod Additions
 pub mod Slots
-pub mod Standing
+pub mod ServerView
 pub mod Looking
 pub mod Showing
 pub mod Examples

@@ -8,7 +8,7 @@ use Rattle.dq_dataset.specs.Values.{element_at, element_octets}
 use Rattle.dq_tables.specs.Keys.{sole_item_at}
 use Rattle.dq_assoc.specs.declared.classes.Service.{Service}
 use Rattle.dq_assoc.specs.declared.classes.Service.TheVariants.{WorklistFind}
-use Rattle.dq_core.specs.declared.notes.Sought.{Sought}
+use Rattle.dq_core.specs.declared.notes.QuerySummary.{QuerySummary}
 
 -- so many octets of a value
 abbrev pub noted_most : ℕ
@@ -24,28 +24,28 @@ or_else [] others = others
 or_else (octet ∷ octets) others = octet ∷ octets
 
 -- The modality, the station and the day that are asked.
-pub record Asked : Type 0 where
+pub record QueriedValues : Type 0 where
   pub modality : List ℕ
   pub station : List ℕ
   pub day : List ℕ
 
-abbrev pub values_asked : Sought → Asked
-values_asked sought =
-    record { modality = sought.modality; station = sought.station; day = sought.day }
+abbrev pub values_asked : QuerySummary → QueriedValues
+values_asked query =
+    record { modality = query.modality; station = query.station; day = query.day }
 
 -- of a query of the worklist those of its only scheduled procedure step (PS3.4 annex K)
-abbrev pub asked_in : Option ElementList → Asked
+abbrev pub asked_in : Option ElementList → QueriedValues
 asked_in step = record {
   modality = noted_octets modality step;
   station = noted_octets scheduled_station_ae_title step;
   day = noted_octets scheduled_procedure_step_start_date step;
 }
 
-abbrev pub asked_of_entries : ElementList → Asked
+abbrev pub asked_of_entries : ElementList → QueriedValues
 asked_of_entries d = asked_in (sole_item_at scheduled_procedure_step_sequence d)
 
 -- of a query of studies those of the study, or of a series of it (PS3.4 annex C)
-abbrev pub asked_of_studies : ElementList → Asked
+abbrev pub asked_of_studies : ElementList → QueriedValues
 asked_of_studies d = record {
   modality = or_else (noted_octets modalities_in_study (Some d)) (noted_octets modality (Some d));
   station = [];
@@ -53,6 +53,6 @@ asked_of_studies d = record {
 }
 
 -- by its service
-abbrev pub asked_by : Service → ElementList → Asked
+abbrev pub asked_by : Service → ElementList → QueriedValues
 asked_by WorklistFind d = asked_of_entries d
 asked_by _ d = asked_of_studies d

@@ -5,7 +5,7 @@ use Rattle.dq_dataset.specs.Tree.{ElementList}
 use Rattle.dq_dimse.specs.declared.command.Command.{Command}
 use Rattle.dq_dimse.specs.Sending.{command_set, cut_into_pdus}
 use Rattle.dq_dimse.specs.Statuses.{success}
-use Rattle.dq_assoc.specs.declared.agreement.AgreedContext.{AgreedContext}
+use Rattle.dq_assoc.specs.declared.agreement.AcceptedContext.{AcceptedContext}
 use Rattle.dq_config.specs.declared.config.Institution.{Institution}
 use Rattle.dq_match.specs.declared.responses.Found.{Found}
 use Rattle.dq_tables.specs.declared.fault.TableFault.{TableFault}
@@ -26,20 +26,20 @@ use Rattle.dq_core.specs.Pages.{OpenQuery}
 -- the answers that were found and not sent
 abbrev pub at_hand : Answers → List ElementList
 at_hand (answers.Found queue) = queue.answers
-at_hand (answers.Sought lazy) = lazy.found
+at_hand (answers.Lazy lazy) = lazy.found
 
 -- and those that are still to be found
 abbrev pub to_be_found : List Record → Answers → List ElementList
 to_be_found records (answers.Found queue) = []
-to_be_found records (answers.Sought lazy) = left_of lazy.search records
+to_be_found records (answers.Lazy lazy) = left_of lazy.search records
 
 abbrev pub status_of : Answers → ℕ
 status_of (answers.Found queue) = queue.status
-status_of (answers.Sought lazy) = success
+status_of (answers.Lazy lazy) = success
 
 abbrev pub optional_of : Answers → Bool
 optional_of (answers.Found queue) = queue.optional
-optional_of (answers.Sought lazy) = lazy.search.query.optional
+optional_of (answers.Lazy lazy) = lazy.search.query.optional
 
 -- what is left of what is found
 abbrev pub found_left : List Record → Answers → Found
@@ -112,7 +112,7 @@ pub record Gives (before : Answers) (answer : ElementList) (after : Answers) : T
   pub optional : optional_of after ≡ optional_of before
 
 -- the octets of a response before its data set
-abbrev pub command_octets : AgreedContext → ℕ → Command → ℕ → Bool → List ℕ
+abbrev pub command_octets : AcceptedContext → ℕ → Command → ℕ → Bool → List ℕ
 command_octets context limit command status with_data =
     cut_into_pdus context.id true limit
     (command_set (response_command context.class command status with_data))

@@ -4,7 +4,7 @@ use Rattle.dq_dataset.specs.Tree.{ElementList}
 use Rattle.dq_dimse.specs.declared.command.Command.{Command}
 use Rattle.dq_dimse.specs.Received.{Message}
 use Rattle.dq_dimse.specs.Statuses.{success}
-use Rattle.dq_assoc.specs.declared.agreement.AgreedContext.{AgreedContext}
+use Rattle.dq_assoc.specs.declared.agreement.AcceptedContext.{AcceptedContext}
 use Rattle.dq_assoc.specs.declared.agreement.Agreement.{Agreement}
 use Rattle.dq_assoc.specs.declared.classes.Service.{Service}
 use Rattle.dq_assoc.specs.declared.classes.Service.TheVariants.{StudyRootFind, WorklistFind}
@@ -20,13 +20,13 @@ use Rattle.dq_tables.specs.Rows.{Record}
 use Rattle.dq_core.specs.Services.{Response, Responses, pending_response, served}
 
 -- these responses are pending ones, each with one of the answers, in their order
-abbrev pub ArePending : AgreedContext → Command → Bool → List ElementList → List Response → Type 0
+abbrev pub ArePending : AcceptedContext → Command → Bool → List ElementList → List Response → Type 0
 ArePending context command optional answers responses =
     responses ≡ map (pending_response context command optional) answers
 
 -- Responses to a query of a service are the answers to it: one for each record that matches, in the
 -- order of their keys, with what is told of it. Another service has no answers.
-abbrev pub AreAnswersOf : Service → AgreedContext → List ℕ → List Record → Message → List Response
+abbrev pub AreAnswersOf : Service → AcceptedContext → List ℕ → List Record → Message → List Response
     → Type 0
 AreAnswersOf StudyRootFind context called records message responses =
     (query : Query) × (study.message_query message context.syntax ≡ Ok query)
@@ -41,7 +41,7 @@ AreAnswersOf other context called records message responses = (responses ≡ [])
 
 -- The pending responses to a C-FIND that ends with 0000 are the answers to its query. There are none
 -- where it is refused.
-pub record AreExact (records : List Record) (agreement : Agreement) (context : AgreedContext)
+pub record AreExact (records : List Record) (agreement : Agreement) (context : AcceptedContext)
     (message : Message) (r : Responses) : Type 0 where
   pub answers : r.final.0.status ≡ success
       → AreAnswersOf (service_of context.class) context agreement.called records message r.pending
@@ -49,7 +49,7 @@ pub record AreExact (records : List Record) (agreement : Agreement) (context : A
 
 -- so are those to a message that comes on a context
 abbrev pub IsAnsweredExactly : Limits → List Record → Agreement → Message → Type 0
-IsAnsweredExactly limits records agreement message = (context : AgreedContext) (r : Responses)
+IsAnsweredExactly limits records agreement message = (context : AcceptedContext) (r : Responses)
     → context_of agreement message.context ≡ Some context
     → (served limits records agreement message).responses ≡ Some r
     → AreExact records agreement context message r

@@ -11,7 +11,7 @@ use Rattle.dq_dimse.specs.CommandFields.{c_cancel, c_echo, c_find, c_store, n_cr
 use Rattle.dq_dimse.specs.Statuses.{success, cancel, pending, pending_without_optional_keys, sop_class_not_supported, unrecognized_operation}
 use Rattle.std.specs.Option.{option_map_or}
 use Rattle.std.specs.Str.{bytes_eq}
-use Rattle.dq_assoc.specs.declared.agreement.AgreedContext.{AgreedContext}
+use Rattle.dq_assoc.specs.declared.agreement.AcceptedContext.{AcceptedContext}
 use Rattle.dq_assoc.specs.declared.agreement.Agreement.{Agreement}
 use Rattle.dq_assoc.specs.declared.classes.SopClass.{SopClass}
 use Rattle.dq_assoc.specs.declared.classes.Service.{Service}
@@ -95,19 +95,19 @@ abbrev pub pending_status : Bool → ℕ
 pending_status optional = if optional then pending_without_optional_keys else pending
 
 -- the response with an answer, in the context's transfer syntax
-abbrev pub pending_response : AgreedContext → Command → Bool → ElementList → Response
+abbrev pub pending_response : AcceptedContext → Command → Bool → ElementList → Response
 pending_response context command optional answer =
     response context.class command (pending_status optional)
     (Some (canonical context.syntax answer))
 
 -- a response for each answer, in order
-abbrev pub pending_responses : AgreedContext → Command → Found → List Response
+abbrev pub pending_responses : AcceptedContext → Command → Found → List Response
 pending_responses context command found =
     map (pending_response context command found.optional) found.answers
 
 -- The responses with the answers, and the one with the status, which has no data set. After a
 -- C-CANCEL that is FE00 (PS3.4 section C.4.1.1.4).
-abbrev pub responses : AgreedContext → Command → Found → Responses
+abbrev pub responses : AcceptedContext → Command → Found → Responses
 responses context command found = record {
   pending = pending_responses context command found;
   final = response context.class command found.status None;
@@ -168,7 +168,7 @@ outcome_of (Some operation) true called syntax limits message records =
     operation_outcome operation called syntax limits message records
 
 -- the outcome of a message on a context that was accepted
-abbrev pub message_outcome : Agreement → AgreedContext → Limits → Message → List Record
+abbrev pub message_outcome : Agreement → AcceptedContext → Limits → Message → List Record
     → Found × List Edit
 message_outcome agreement context limits message =
     outcome_of (operation_named (service_of context.class) message.command.code)
@@ -176,7 +176,7 @@ message_outcome agreement context limits message =
     agreement.called context.syntax limits message
 
 -- the responses of an outcome, and its edits
-abbrev pub served_by : AgreedContext → Command → Found × List Edit → Served
+abbrev pub served_by : AcceptedContext → Command → Found × List Edit → Served
 served_by context command outcome =
     record { responses = Some (responses context command outcome.0); edits = outcome.1 }
 
@@ -185,7 +185,7 @@ served_by context command outcome =
 unfoldable pub served : Limits → List Record → Agreement → Message → Served
 served limits records agreement message =
     if message.command.code == c_cancel then no_response
-    else option_map_or (λ (context : AgreedContext). served_by context message.command
+    else option_map_or (λ (context : AcceptedContext). served_by context message.command
     (message_outcome agreement context limits message records))
     (context_of agreement message.context) no_response
 

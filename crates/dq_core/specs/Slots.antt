@@ -30,8 +30,8 @@ use Rattle.dq_core.specs.Queries.{open_query_in, query_then}
 use Rattle.dq_core.specs.Answers.{Answer, verdict_at}
 use Rattle.dq_core.specs.Connections.{Connection, with_piece}
 use Rattle.dq_core.specs.Histories.{is_above}
-use Rattle.dq_core.specs.Tallies.{IsTallied, institution_index, one_less}
-use Rattle.dq_core.specs.Doing.{Taken, taken_answer}
+use Rattle.dq_core.specs.OpenAssociations.{IsTallied, institution_index, one_less}
+use Rattle.dq_core.specs.Effects.{Taken, taken_answer}
 use Rattle.dq_core.specs.Owners.{owner}
 use Rattle.dq_core.specs.Shared.{World, EventEffect, answer_by, operations_by}
 use Rattle.dq_core.specs.declared.event.Reply.{Reply}

@@ -33,7 +33,7 @@ TakesNoMemory connections (Withdraw inst id) = ⊥
 -- What was not honest does not become so. Store is answered only where the tables failed in the
 -- call. Where a crash could leave the rows alone before an answer, it can leave nothing else after
 -- it.
-pub record Goes {A : Type 0} (old new : Kept) (result : Result A Fault) : Type 0 where
+pub record HealthAfter {A : Type 0} (old new : Kept) (result : Result A Fault) : Type 0 where
   pub was_honest : new.honest → old.honest
   pub told : result ≡ Err Store → new.failed ≡ true
   pub untold : new.failed ≡ true → (old.failed ≡ true) ⊎ (result ≡ Err Store)

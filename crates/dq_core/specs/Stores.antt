@@ -5,7 +5,7 @@ use Rattle.dq_dataset.specs.Tree.{no_elements}
 use Rattle.dq_dataset.specs.Reading.{reading}
 use Rattle.dq_dimse.specs.Received.{Message}
 use Rattle.dq_dimse.specs.Statuses.{success, elements_discarded}
-use Rattle.dq_assoc.specs.declared.agreement.AgreedContext.{AgreedContext}
+use Rattle.dq_assoc.specs.declared.agreement.AcceptedContext.{AcceptedContext}
 use Rattle.dq_assoc.specs.declared.agreement.Agreement.{Agreement}
 use Rattle.dq_assoc.specs.declared.classes.Service.TheVariants.{Storage}
 use Rattle.dq_assoc.specs.Classes.{service_of}
@@ -29,7 +29,7 @@ pub record SaysWhatStands (records : List Record) (sent : Instance) (status : �
 -- So does the response to a message on a context of the service, of the institution's records as
 -- the message leaves them.
 abbrev pub IsToldTruly : Limits → List ℕ → List Row → Agreement → Message → Type 0
-IsToldTruly limits name rows agreement message = (context : AgreedContext) (r : Responses)
+IsToldTruly limits name rows agreement message = (context : AcceptedContext) (r : Responses)
     → context_of agreement message.context ≡ Some context → service_of context.class ≡ Storage
     → (served limits (of name rows) agreement message).responses ≡ Some r
     → SaysWhatStands

@@ -2,7 +2,7 @@
 ghost use Rattle.std.specs.Prelude.{◌≡◌, [], IfOk, length};
 ghost use Rattle.dq_core.specs.Additions.{log_at, log_of, with_log};
 
-use crate::tally::place_of;
+use crate::open_associations::place_of;
 use dq_archive::Added;
 use dq_config::Config;
 use dq_list::Listed;

@@ -17,7 +17,7 @@ use std::alloc::{AllocError, Global};
 #[derive(Drop)]
 pub(crate) enum Answers {
     Found(AnswerQueue),
-    Sought(LazyAnswers),
+    Lazy(LazyAnswers),
 }
 
 impl Answers {
@@ -31,7 +31,7 @@ impl Answers {
     {
         match self {
             Answers::Found(_) => Ok(()),
-            Answers::Sought(lazy) => lazy.find(archive, number),
+            Answers::Lazy(lazy) => lazy.find(archive, number),
         }
     }
 
@@ -41,7 +41,7 @@ impl Answers {
     {
         match self {
             Answers::Found(queue) => queue.left(),
-            Answers::Sought(lazy) => lazy.found(),
+            Answers::Lazy(lazy) => lazy.found(),
         }
     }
 
@@ -58,7 +58,7 @@ impl Answers {
     {
         match self {
             Answers::Found(queue) => queue.next_octets(alloc, syntax),
-            Answers::Sought(lazy) => match lazy.next() {
+            Answers::Lazy(lazy) => match lazy.next() {
                 Some(answer) => Ok(Some(answer_octets(alloc, &answer, syntax)?)),
                 None => Ok(None),
             },
@@ -71,7 +71,7 @@ impl Answers {
     {
         match self {
             Answers::Found(queue) => queue.pack(alloc),
-            Answers::Sought(_) => Ok(()),
+            Answers::Lazy(_) => Ok(()),
         }
     }
 
@@ -81,7 +81,7 @@ impl Answers {
     {
         match self {
             Answers::Found(queue) => queue.status(),
-            Answers::Sought(_) => SUCCESS,
+            Answers::Lazy(_) => SUCCESS,
         }
     }
 
@@ -91,7 +91,7 @@ impl Answers {
     {
         match self {
             Answers::Found(queue) => queue.optional(),
-            Answers::Sought(lazy) => lazy.optional(),
+            Answers::Lazy(lazy) => lazy.optional(),
         }
     }
 }

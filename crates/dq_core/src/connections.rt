@@ -15,19 +15,19 @@ ghost use Rattle.dq_core.specs.declared.event.Reply.{Reply};
 ghost use Rattle.dq_core.specs.Connections.{Connection, connection_in, is_pending};
 ghost use Rattle.dq_core.specs.Histories.{is_above};
 ghost use Rattle.dq_core.specs.Shared.{World, turn};
-ghost use Rattle.dq_core.specs.Stepping.{Goes, MayLeaveAfter, IsPartOf};
+ghost use Rattle.dq_core.specs.Stepping.{HealthAfter, MayLeaveAfter, IsPartOf};
 ghost use Rattle.dq_tables.specs.declared.row.Row.{Row};
 ghost use Rattle.dq_core.specs.declared.slot.Slot.{Slot as TheSlot};
 ghost use Rattle.dq_core.specs.Additions.{log_at, with_log, owner_place};
-ghost use Rattle.dq_core.specs.Tallies.{IsTallied, tally_of_name};
+ghost use Rattle.dq_core.specs.OpenAssociations.{IsTallied, tally_of_name};
 ghost use Rattle.dq_core.specs.Slots.{IsUnsearched, is_searching, has_slot, has_search, AreHeld, IsHeld, StandsAt, Turned, Took, owner_at, verdict_for, without_home};
 
 use crate::additions::Additions;
 use crate::event::Reply;
 use crate::fault::Fault;
-use crate::notes::{Heard, Notes};
+use crate::notes::{Notes, PduSummary};
+use crate::open_associations::{OpenAssociations, place_of};
 use crate::slot::{Called, Slot, Taken};
-use crate::tally::{Tally, place_of};
 use dq_archive::Added;
 use dq_assoc::Verdict;
 use dq_assoc::laws::{a_longer_stream_adds_inputs, an_association_after_pdus};
@@ -52,7 +52,7 @@ pub(crate) struct Connections {
     pub slots: Slab<Slot>,
     pub places: BTreeMap<u64, usize>,
     pub spares: Vec<Slot>,
-    pub tally: Tally,
+    pub tally: OpenAssociations,
     pub additions: Additions,
     pub newest: Option<u64>,
 }
@@ -64,7 +64,7 @@ impl Connections {
         ensures none { IfOk result (λ held. (rows : List Row) → AreHeld config rows held []) }
         ensures newest { IfOk result (λ held. held.newest ≡ None) }
     {
-        let tally = Tally::new(alloc, &config)?;
+        let tally = OpenAssociations::new(alloc, &config)?;
         let additions = Additions::new(alloc, &config)?;
         Ok(Connections {
             config,
@@ -170,7 +170,7 @@ impl Connections {
         piece: &[u8],
         notes: &mut Notes,
     ) -> Result<Reply, Fault>
-        ensures goes { Goes (T.state tables.old) (T.state tables.new) result }
+        ensures goes { HealthAfter (T.state tables.old) (T.state tables.new) result }
         ensures turned { (world : World) →
             AreHeld self.old.config world.rows self.old world.connections →
             (T.state tables.old).rows ≡ world.rows → (T.state tables.new).honest →
@@ -236,7 +236,7 @@ impl Connections {
         number: u64,
         notes: &mut Notes,
     ) -> Result<Reply, Fault>
-        ensures goes { Goes (T.state tables.old) (T.state tables.new) result }
+        ensures goes { HealthAfter (T.state tables.old) (T.state tables.new) result }
         ensures turned { (world : World) →
             AreHeld self.old.config world.rows self.old world.connections →
             (T.state tables.old).rows ≡ world.rows → (T.state tables.new).honest →
@@ -328,7 +328,11 @@ fn owner_of<'a>(config: &'a Config, slot: &Slot, pdus: &[Pdu]) -> Option<&'a Ins
 
 /// What is known of the titles of a connection: an institution that has it, and whether it takes
 /// one more association, or none.
-fn verdict_for(config: &Config, tally: &Tally, institution: Option<&Institution>) -> Verdict
+fn verdict_for(
+    config: &Config,
+    tally: &OpenAssociations,
+    institution: Option<&Institution>,
+) -> Verdict
     ensures { result ≡ verdict_for (tally_of_name config.now tally.now.counts.items)
         (option_copied institution.entry) }
 {
@@ -393,7 +397,7 @@ fn stays_open(slot: &Slot, close: bool) -> bool
 }
 
 /// Counts the association of a connection that ends, where it has one.
-fn end_home(config: &Config, tally: &mut Tally, slot: Option<&Slot>)
+fn end_home(config: &Config, tally: &mut OpenAssociations, slot: Option<&Slot>)
     ensures { tally.new.counts.items
         ≡ without_home config.now tally.old.counts.items (option_copied slot.entry) }
 {
@@ -406,7 +410,7 @@ fn end_home(config: &Config, tally: &mut Tally, slot: Option<&Slot>)
 }
 
 /// Notes the association that a connection has, if it has one and had none before.
-fn note_home(notes: &mut Notes, slot: &Slot, heard: Heard, was_open: bool) {
+fn note_home(notes: &mut Notes, slot: &Slot, heard: PduSummary, was_open: bool) {
     if was_open {
         return;
     }
@@ -420,10 +424,10 @@ fn note_home(notes: &mut Notes, slot: &Slot, heard: Heard, was_open: bool) {
 fn take_piece<'a>(
     alloc: Global,
     config: &'a Config,
-    tally: &Tally,
+    tally: &OpenAssociations,
     slot: &mut Slot,
     piece: &[u8],
-) -> Result<(Option<&'a Institution>, Taken, Heard), AllocError>
+) -> Result<(Option<&'a Institution>, Taken, PduSummary), AllocError>
     ensures { (world : World) (c : Connection) → IsHeld config.now slot.old c →
         IsTallied config.now tally.now.counts.items world.connections → IfOk result (λ x.
         Took config.now world c piece.now (option_copied x.0) x.1 slot.old slot.new) }
@@ -437,7 +441,7 @@ fn take_piece<'a>(
         return Err(AllocError);
     };
     let institution = owner_of(config, slot, fed.pdus.as_slice());
-    let heard = Heard::of(fed.pdus.as_slice());
+    let heard = PduSummary::of(fed.pdus.as_slice());
     let called = Called {
         institution,
         verdict: verdict_for(config, tally, institution),

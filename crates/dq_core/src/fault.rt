@@ -1,7 +1,7 @@
 //! Why the server stopped.
 ghost use Rattle.std.specs.Prelude.{◌≡◌};
 ghost use Rattle.dq_core.specs.declared.fault.Fault.TheVariants.{NoMemory};
-ghost use Rattle.dq_core.specs.Doing.{server_fault};
+ghost use Rattle.dq_core.specs.Effects.{server_fault};
 
 use dq_tables::TableFault;
 use std::alloc::{AllocError, AllocFailed};

@@ -31,7 +31,7 @@ ghost use Rattle.dq_dataset.specs.Tree.{ElementList};
 ghost use Rattle.dq_dimse.specs.CommandFields.{c_find};
 ghost use Rattle.dq_dimse.specs.Received.{Message};
 ghost use Rattle.dq_dimse.specs.Statuses.{success};
-ghost use Rattle.dq_assoc.specs.declared.agreement.AgreedContext.{AgreedContext};
+ghost use Rattle.dq_assoc.specs.declared.agreement.AcceptedContext.{AcceptedContext};
 ghost use Rattle.dq_assoc.specs.declared.agreement.Agreement.{Agreement};
 ghost use Rattle.dq_assoc.specs.declared.classes.Service.TheVariants.{StudyRootFind, WorklistFind};
 ghost use Rattle.dq_assoc.specs.Classes.{service_of, uid_of};
@@ -52,7 +52,7 @@ ghost use Rattle.dq_store.specs.Storing.{store_outcome};
 ghost use Rattle.dq_tables.specs.Sound.{IsSound};
 ghost use Rattle.dq_tables.specs.Keeping.{IsSettled};
 ghost use Rattle.dq_core.specs.Shared.{World};
-ghost use Rattle.dq_core.specs.Standing.{Standing};
+ghost use Rattle.dq_core.specs.ServerView.{ServerView};
 ghost use Rattle.dq_core.specs.Looking.{Looked};
 ghost use Rattle.dq_core.specs.Showing.{found_for, steps_for};
 ghost use Rattle.dq_core.specs.declared.showing.SearchKind.{SearchKind};
@@ -298,7 +298,7 @@ pub fn agreeing_histories_are_answered_alike()
 /// which and in what order). It changes nothing.
 #[tactic(auto, using(crate::proofs::isolation::Searching::study_search))]
 pub fn searches_answer_what_matches()
-    ensures { (agreement : Agreement) (context : AgreedContext) (limits : Limits)
+    ensures { (agreement : Agreement) (context : AcceptedContext) (limits : Limits)
         (message : Message) (records : List Record) (query : Query) →
         service_of context.class ≡ StudyRootFind →
         message.command.code ≡ c_find → message.command.sop_class ≡ uid_of context.class →
@@ -317,7 +317,7 @@ pub fn searches_answer_what_matches()
 /// A worklist query is answered with exactly the entries that match, in the order of their keys.
 #[tactic(auto, using(crate::proofs::isolation::Searching::worklist_search))]
 pub fn worklists_answer_what_matches()
-    ensures { (agreement : Agreement) (context : AgreedContext) (limits : Limits)
+    ensures { (agreement : Agreement) (context : AcceptedContext) (limits : Limits)
         (message : Message) (records : List Record) (keys : ElementList) (optional : Bool) →
         service_of context.class ≡ WorklistFind →
         message.command.code ≡ c_find → message.command.sop_class ≡ uid_of context.class →
@@ -663,8 +663,8 @@ pub fn pulls_cut_answers_into_pages()
 
 /// Two looks at a server are as one, and no look is as one.
 pub fn looks_are_one_look<T: Tables>()
-    ensures no_look { (server : Standing T) → Looked T.state server server }
-    ensures another { (old mid new : Standing T) → Looked T.state old mid →
+    ensures no_look { (server : ServerView T) → Looked T.state server server }
+    ensures another { (old mid new : ServerView T) → Looked T.state old mid →
         Looked T.state mid new → Looked T.state old new }
 {}
 

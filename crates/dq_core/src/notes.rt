@@ -34,7 +34,7 @@ pub enum Party {
 /// What a C-FIND asks for: the tags of its keys, those of a worklist's step after the others, and
 /// the values of three of them. What is not asked is empty.
 #[derive(Drop)]
-pub struct Sought {
+pub struct QuerySummary {
     pub keys: Listed<Tag>,
     pub modality: Listed<u8>,
     pub station: Listed<u8>,
@@ -43,7 +43,7 @@ pub struct Sought {
 
 /// What was served on a connection.
 #[derive(Drop)]
-pub enum Noted {
+pub enum LogEvent {
     /// An association was accepted at the institution of a name, with so many presentation contexts.
     Accepted {
         institution: Listed<u8>,
@@ -74,7 +74,7 @@ pub enum Noted {
         service: Service,
         status: u16,
         answers: usize,
-        sought: Option<Sought>,
+        query: Option<QuerySummary>,
     },
 }
 
@@ -82,7 +82,7 @@ pub enum Noted {
 #[derive(Drop)]
 pub struct Note {
     pub number: u64,
-    pub noted: Noted,
+    pub noted: LogEvent,
 }
 
 /// What is noted of a message while its responses are sent: the service, how many answers were sent,
@@ -91,7 +91,7 @@ pub struct Note {
 pub(crate) struct ServedNote {
     pub service: Service,
     pub answers: usize,
-    pub sought: Option<Sought>,
+    pub query: Option<QuerySummary>,
 }
 
 /// Notes in order, and how many there was no memory for.
@@ -107,7 +107,7 @@ pub struct Notes {
 /// What the PDUs of a piece tell that no answer does: the titles of a request, whether its maximum
 /// length has room for data, and the source and the reason of an abort.
 #[derive(Clone, Copy)]
-pub(crate) struct Heard {
+pub(crate) struct PduSummary {
     titles: Option<Titles>,
     has_room: bool,
     abort: Option<(u8, u8)>,
@@ -137,7 +137,7 @@ impl Notes {
         self.number = number;
     }
 
-    fn put(&mut self, noted: Noted) {
+    fn put(&mut self, noted: LogEvent) {
         let note = Note {
             number: self.number,
             noted,
@@ -156,13 +156,13 @@ impl Notes {
         &mut self,
         home: &Listed<u8>,
         agreement: Option<&Agreement>,
-        heard: Heard,
+        heard: PduSummary,
     ) {
         let (Some(agreement), Some(titles)) = (agreement, heard.titles) else {
             return;
         };
         match Listed::copy_of(self.alloc, home.as_slice()) {
-            Ok(institution) => self.put(Noted::Accepted {
+            Ok(institution) => self.put(LogEvent::Accepted {
                 institution,
                 titles,
                 contexts: agreement.contexts.len(),
@@ -172,7 +172,7 @@ impl Notes {
     }
 
     /// What a connection is closed by.
-    pub(crate) fn close(&mut self, ending: Option<Noted>) {
+    pub(crate) fn close(&mut self, ending: Option<LogEvent>) {
         if let Some(noted) = ending {
             self.put(noted);
         }
@@ -181,7 +181,7 @@ impl Notes {
     /// The connection with a number ended.
     pub(crate) fn end(&mut self, number: u64) {
         self.number = number;
-        self.put(Noted::Ended);
+        self.put(LogEvent::Ended);
     }
 
     /// The allocator that they were made with.
@@ -201,9 +201,9 @@ impl Notes {
         service: Service,
         identifier: Option<&DataSet>,
     ) -> Option<ServedNote> {
-        let sought = match identifier {
-            Some(identifier) => match sought_in(self.alloc, service, identifier) {
-                Ok(sought) => Some(sought),
+        let query = match identifier {
+            Some(identifier) => match summary_of(self.alloc, service, identifier) {
+                Ok(query) => Some(query),
                 Err(AllocError) => {
                     self.lose();
                     return None;
@@ -214,7 +214,7 @@ impl Notes {
         Some(ServedNote {
             service,
             answers: 0,
-            sought,
+            query,
         })
     }
 
@@ -224,24 +224,24 @@ impl Notes {
             ServedNote {
                 service,
                 answers,
-                sought,
+                query,
             },
         ) = note
         else {
             return;
         };
-        self.put(Noted::Served {
+        self.put(LogEvent::Served {
             service,
             status,
             answers,
-            sought,
+            query,
         });
     }
 }
 
-impl Heard {
+impl PduSummary {
     /// What the first of the PDUs tells of a request, and the first abort among them.
-    pub(crate) fn of(pdus: &[Pdu]) -> Heard {
+    pub(crate) fn of(pdus: &[Pdu]) -> PduSummary {
         let (titles, has_room) = match pdus.first() {
             Some(Pdu::Request(request)) => (
                 Some(Titles {
@@ -258,7 +258,7 @@ impl Heard {
                 abort = abort.or(Some((*source, *reason)));
             }
         }
-        Heard {
+        PduSummary {
             titles,
             has_room,
             abort,
@@ -267,28 +267,28 @@ impl Heard {
 
     /// What a step closes a connection by, if it does: the PDU that it answers, and an abort of the
     /// peer where it answers none (PS3.8 section 9.2).
-    pub(crate) fn ending(self, step: &Step) -> Option<Noted> {
+    pub(crate) fn ending(self, step: &Step) -> Option<LogEvent> {
         if !step.close {
             return None;
         }
         match step.octets.as_slice() {
             [] => {
                 let (source, reason) = self.abort?;
-                Some(Noted::Aborted {
+                Some(LogEvent::Aborted {
                     party: Party::Peer,
                     source,
                     reason,
                 })
             }
-            [3, _, _, _, _, _, _, result, source, reason] => Some(Noted::Rejected {
+            [3, _, _, _, _, _, _, result, source, reason] => Some(LogEvent::Rejected {
                 titles: self.titles?,
                 result: *result,
                 source: *source,
                 reason: *reason,
                 has_room: self.has_room,
             }),
-            [6, ..] => Some(Noted::Released),
-            [7, _, _, _, _, _, _, _, source, reason] => Some(Noted::Aborted {
+            [6, ..] => Some(LogEvent::Released),
+            [7, _, _, _, _, _, _, _, source, reason] => Some(LogEvent::Aborted {
                 party: Party::Server,
                 source: *source,
                 reason: *reason,
@@ -347,8 +347,8 @@ fn add_tags(tags: &mut Listed<Tag>, elements: &[Element]) -> Result<(), AllocErr
 }
 
 /// What the identifier of a query of studies asks for.
-fn studies_sought(alloc: Global, identifier: &DataSet) -> Result<Sought, AllocError>
-    ensures { IfOk result (λ sought. values_asked sought ≡ asked_of_studies identifier.now) }
+fn summary_of_studies(alloc: Global, identifier: &DataSet) -> Result<QuerySummary, AllocError>
+    ensures { IfOk result (λ query. values_asked query ≡ asked_of_studies identifier.now) }
 {
     let mut keys = Listed::empty(alloc);
     add_tags(&mut keys, identifier.elements())?;
@@ -356,7 +356,7 @@ fn studies_sought(alloc: Global, identifier: &DataSet) -> Result<Sought, AllocEr
     if modality.is_empty() {
         modality = noted_octets(alloc, Some(identifier), tags::MODALITY)?;
     }
-    Ok(Sought {
+    Ok(QuerySummary {
         keys,
         modality,
         station: Listed::empty(alloc),
@@ -365,8 +365,8 @@ fn studies_sought(alloc: Global, identifier: &DataSet) -> Result<Sought, AllocEr
 }
 
 /// What the identifier of a worklist query asks for.
-fn entries_sought(alloc: Global, identifier: &DataSet) -> Result<Sought, AllocError>
-    ensures { IfOk result (λ sought. values_asked sought ≡ asked_of_entries identifier.now) }
+fn summary_of_entries(alloc: Global, identifier: &DataSet) -> Result<QuerySummary, AllocError>
+    ensures { IfOk result (λ query. values_asked query ≡ asked_of_entries identifier.now) }
 {
     let step = sole_item_at(identifier, tags::SCHEDULED_PROCEDURE_STEP_SEQUENCE);
     let mut keys = Listed::empty(alloc);
@@ -374,7 +374,7 @@ fn entries_sought(alloc: Global, identifier: &DataSet) -> Result<Sought, AllocEr
     if let Some(step) = step {
         add_tags(&mut keys, step.elements())?;
     }
-    Ok(Sought {
+    Ok(QuerySummary {
         keys,
         modality: noted_octets(alloc, step, tags::MODALITY)?,
         station: noted_octets(alloc, step, tags::SCHEDULED_STATION_AE_TITLE)?,
@@ -383,11 +383,15 @@ fn entries_sought(alloc: Global, identifier: &DataSet) -> Result<Sought, AllocEr
 }
 
 /// What the identifier of a C-FIND of a service asks for.
-fn sought_in(alloc: Global, service: Service, identifier: &DataSet) -> Result<Sought, AllocError>
-    ensures { IfOk result (λ sought. values_asked sought ≡ asked_by service identifier.now) }
+fn summary_of(
+    alloc: Global,
+    service: Service,
+    identifier: &DataSet,
+) -> Result<QuerySummary, AllocError>
+    ensures { IfOk result (λ query. values_asked query ≡ asked_by service identifier.now) }
 {
     match service {
-        Service::WorklistFind => entries_sought(alloc, identifier),
-        _ => studies_sought(alloc, identifier),
+        Service::WorklistFind => summary_of_entries(alloc, identifier),
+        _ => summary_of_studies(alloc, identifier),
     }
 }

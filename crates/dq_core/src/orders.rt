@@ -2,7 +2,7 @@
 ghost use Rattle.std.specs.Prelude.{◌≡◌, ◌≢◌, IfErr};
 ghost use Rattle.dq_config.specs.Routing.{institution_named};
 ghost use Rattle.dq_core.specs.Services.{Scheduling, Withdrawal, order_reply};
-ghost use Rattle.dq_core.specs.Doing.{Orders};
+ghost use Rattle.dq_core.specs.Effects.{Orders};
 
 use crate::event::Reply;
 use crate::fault::Fault;

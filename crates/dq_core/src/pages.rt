@@ -1,6 +1,6 @@
 //! The responses to a message, a page at a time (PS3.4 sections C.4.1 and K.4.1).
 ghost use Rattle.std.specs.Prelude.{◌≡◌, ◌≤◌, ◌++◌, ◌∷◌, [], List, length, take, true, false, Some, None, option_map, IfOk, OnOk};
-ghost use Rattle.dq_dimse.specs.LentCommands.{command_of_lent};
+ghost use Rattle.dq_dimse.specs.CommandRefs.{command_of_ref};
 ghost use Rattle.dq_core.specs.Services.{is_of_instance, named_instance, response_command, response, pending_status};
 ghost use Rattle.dq_core.specs.Pages.{responses_octets, rest, without_first, page, cancel_reaction};
 ghost use Rattle.dq_tables.specs.Rows.{Record};
@@ -11,8 +11,8 @@ ghost use Rattle.dq_core.specs.Queries.{at_hand, open_query_of, open_query_in, c
 use crate::answers::Answers;
 use crate::notes::{Notes, ServedNote};
 use dq_archive::Past;
-use dq_assoc::{AgreedContext, PeerLimit, SopClass};
-use dq_dimse::{Command, LentCommand, append_command, append_data_set, command_field, status};
+use dq_assoc::{AcceptedContext, PeerLimit, SopClass};
+use dq_dimse::{Command, CommandRef, append_command, append_data_set, command_field, status};
 use dq_tables::{TableFault, Tables};
 use std::alloc::{AllocError, Global};
 
@@ -24,7 +24,7 @@ const PAGE_LENGTH: usize = 64;
 /// additions had as it began, and what is to be noted of it.
 #[derive(Drop)]
 pub(crate) struct OpenQuery {
-    pub context: AgreedContext,
+    pub context: AcceptedContext,
     pub command: Command,
     pub limit: PeerLimit,
     pub answers: Answers,
@@ -58,10 +58,10 @@ fn response_command(
     command: &Command,
     status: u16,
     with_data: bool,
-) -> LentCommand<'_>
-    ensures { command_of_lent result ≡ response_command class command.now status with_data }
+) -> CommandRef<'_>
+    ensures { command_of_ref result ≡ response_command class command.now status with_data }
 {
-    LentCommand {
+    CommandRef {
         code: command.code | command_field::RESPONSE_BIT,
         id: command.id,
         sop_class: class.uid(),
@@ -87,7 +87,7 @@ fn pending_status(optional: bool) -> u16
 #[derive(Clone, Copy)]
 struct Recipient<'a> {
     alloc: Global,
-    context: AgreedContext,
+    context: AcceptedContext,
     command: &'a Command,
     limit: PeerLimit,
 }

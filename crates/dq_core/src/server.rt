@@ -12,9 +12,9 @@ ghost use Rattle.dq_core.specs.Runs.{IsRun, IsLeftOf, FaultsAfter, HasNoRoom, Is
 ghost use Rattle.dq_core.specs.Soundness.{HoldSound, BringOctets};
 ghost use Rattle.dq_core.specs.Conversations.{IsAnsweredRun};
 ghost use Rattle.dq_core.specs.Histories.{is_above, newest_after, rises_from, is_well_formed_history};
-ghost use Rattle.dq_core.specs.Stepping.{Opens, TakesNoMemory, Goes, MayLeaveAfter, IsPartOf};
+ghost use Rattle.dq_core.specs.Stepping.{Opens, TakesNoMemory, HealthAfter, MayLeaveAfter, IsPartOf};
 ghost use Rattle.dq_core.specs.Slots.{has_slot, has_search, AreHeld, Turned};
-ghost use Rattle.dq_core.specs.Standing.{IsQuiet, IsWorking, StandsFor};
+ghost use Rattle.dq_core.specs.ServerView.{IsQuiet, IsWorking, Refines};
 ghost use Rattle.dq_tables.specs.Finding.{rows_of};
 ghost use Rattle.dq_core.specs.Looking.{Looked, FailsToLook};
 ghost use Rattle.dq_core.specs.Showing.{found_for, steps_for};
@@ -27,10 +27,10 @@ use crate::laws::{
     associations_are_answered_in_full, institutions_are_answered_by_records,
     institutions_are_isolated, institutions_have_own_names, runs_are_isolated,
 };
-use crate::look::Look;
 use crate::notes::Notes;
 use crate::orders::{schedule_entry, withdraw_entry};
 use crate::showing::{SearchKind, ShownPage, search_page, steps_page};
+use crate::table_inspection::TableInspection;
 use dq_config::{Config, Institution};
 use dq_dataset::DataSet;
 use dq_list::Listed;
@@ -54,9 +54,9 @@ impl<T> Model for Server<T> {
     ghost use Rattle.dq_dataset.specs.contracts.data_set.DataSet as data_set;
     ghost use Rattle.slab.specs.Slab.{slab_code};
     ghost use Rattle.std_collections.specs.Layout.BTreeMap.{btree_map_code};
-    ghost use Rattle.dq_core.specs.Standing.{Standing};
+    ghost use Rattle.dq_core.specs.ServerView.{ServerView};
 
-    ghost Value = { Standing T };
+    ghost Value = { ServerView T };
 
     ghost coded = { Prim.hlevel (codes, data_set.the_row.coded, T.code, slab_code, btree_map_code) };
 
@@ -84,7 +84,7 @@ impl<T: Tables> Server<T> {
     where
         T: Drop,
         requires { (T.state tables).failed ≡ false }
-        ensures stands { IfOk result (λ server. StandsFor T.state (T.state tables).rows server []) }
+        ensures stands { IfOk result (λ server. Refines T.state (T.state tables).rows server []) }
         ensures institutions { IfOk result (λ server. server.institutions ≡ config) }
         ensures tables { IfOk result (λ server. server.tables ≡ tables) }
         ensures working { IfOk result (IsWorking T.state) }
@@ -99,7 +99,7 @@ impl<T: Tables> Server<T> {
         requires none { (rows : List Row) → AreHeld connections.config rows connections [] }
         requires first { connections.newest ≡ None }
         requires working { (T.state tables).failed ≡ false }
-        ensures stands { StandsFor T.state (T.state tables).rows result [] }
+        ensures stands { Refines T.state (T.state tables).rows result [] }
         ensures institutions { result.institutions ≡ connections.config }
         ensures tables { result.tables ≡ tables }
     {
@@ -123,7 +123,7 @@ impl<T: Tables> Server<T> {
     /// After a fault none is held.
     pub fn holds(&self, number: u64) -> bool
         ensures stands { (rows : List Row) (events : List Event) →
-            StandsFor T.state rows self.now events →
+            Refines T.state rows self.now events →
             let world = world_after self.now.institutions rows events in
             result ≡ is_some (connection_in number world.connections) }
         ensures told { self.now.spent ≡ false → result ≡ has_slot number self.now.slots }
@@ -136,7 +136,7 @@ impl<T: Tables> Server<T> {
     /// that a pull brings. After a fault none is open.
     pub fn pending(&self, number: u64) -> bool
         ensures stands { (rows : List Row) (events : List Event) →
-            StandsFor T.state rows self.now events →
+            Refines T.state rows self.now events →
             let world = world_after self.now.institutions rows events in
             result ≡ is_pending number world.connections }
         ensures told { self.now.spent ≡ false → result ≡ has_search number self.now.slots }
@@ -178,16 +178,16 @@ impl<T: Tables> Server<T> {
         requires { Opens self.old.newest event }
         // Whatever history the server stands for, the reply is that of the plain server.
         ensures reply { (rows : List Row) (events : List Event) →
-            StandsFor T.state rows self.old events → (T.state self.new.tables).honest →
+            Refines T.state rows self.old events → (T.state self.new.tables).honest →
             IfOk result (λ reply. reply ≡ (turn self.old.institutions
             (world_after self.old.institutions rows events) event).reply) }
         ensures stands { (rows : List Row) (events : List Event) →
-            StandsFor T.state rows self.old events → (T.state self.new.tables).honest →
-            OnOk result (StandsFor T.state rows self.new (events ++ event ∷ [])) }
+            Refines T.state rows self.old events → (T.state self.new.tables).honest →
+            OnOk result (Refines T.state rows self.new (events ++ event ∷ [])) }
         // At a fault the first of the event's operations were made. A crash may leave no others,
         // but for the next one.
         ensures part { (rows : List Row) (events : List Event) →
-            StandsFor T.state rows self.old events → (T.state self.new.tables).honest →
+            Refines T.state rows self.old events → (T.state self.new.tables).honest →
             OnErr result (let world = world_after self.old.institutions rows events in
             IsPartOf (turn self.old.institutions world event).operations world.rows
             (T.state self.new.tables).rows
@@ -195,7 +195,7 @@ impl<T: Tables> Server<T> {
         // An end, a piece or a pull for a number that is not held, an empty piece, and a pull where
         // no C-FIND is open take no memory, and leave the tables alone.
         ensures quiet { (rows : List Row) (events : List Event) →
-            StandsFor T.state rows self.old events →
+            Refines T.state rows self.old events →
             TakesNoMemory (world_after self.old.institutions rows events).connections event →
             IsOk result }
         // So it is whatever the tables did before: of an end, an empty piece, a piece for a number
@@ -204,7 +204,7 @@ impl<T: Tables> Server<T> {
         ensures institutions { self.new.institutions ≡ self.old.institutions }
         ensures newest { OnOk result (self.new.newest ≡ newest_after self.old.newest (event ∷ [])) }
         ensures unspent { OnOk result (self.new.spent ≡ false) }
-        ensures goes { Goes (T.state self.old.tables) (T.state self.new.tables) result }
+        ensures goes { HealthAfter (T.state self.old.tables) (T.state self.new.tables) result }
         // Tables that have failed spend the server. Store is answered only where they failed in
         // this step.
         ensures working { IsWorking T.state self.old → IsWorking T.state self.new }
@@ -318,7 +318,7 @@ impl<T: Tables> Server<T> {
 
     /// Looks at what keeps the rows. It is no event, and changes nothing. After a fault every look is
     /// answered Stopped.
-    pub fn look<L: Look<T>>(&mut self, look: &L) -> Result<L::Seen, Fault>
+    pub fn look<L: TableInspection<T>>(&mut self, look: &L) -> Result<L::Seen, Fault>
         ensures shows { (T.state self.new.tables).honest → IfOk result (λ seen.
             L.shows look.now (T.state self.old.tables).rows seen) }
         ensures looked { OnOk result (Looked T.state self.old self.new) }
@@ -346,7 +346,7 @@ impl<T: Tables> Server<T> {
     /// Does what an event asks for.
     fn turn(&mut self, event: Event) -> Result<Reply, Fault>
         requires { Opens self.old.newest event }
-        ensures goes { Goes (T.state self.old.tables) (T.state self.new.tables) result }
+        ensures goes { HealthAfter (T.state self.old.tables) (T.state self.new.tables) result }
         ensures turned { (world : World) →
             AreHeld self.old.institutions world.rows self.old.slots world.connections →
             (T.state self.old.tables).rows ≡ world.rows → (T.state self.new.tables).honest →
@@ -434,27 +434,27 @@ fn answer_all<T: Tables>(
     requires unspent { server.old.spent ≡ false }
     requires empty { given.old.items ≡ [] }
     requires room { length events.items ≤ vec_capacity given.old }
-    ensures ran { (rows : List Row) → StandsFor T.state rows server.old [] →
+    ensures ran { (rows : List Row) → Refines T.state rows server.old [] →
         (T.state server.new.tables).honest →
         IsRun server.old.institutions rows events.items given.new.items
         (T.state server.new.tables).rows }
-    ensures faulted { (rows : List Row) → StandsFor T.state rows server.old [] →
+    ensures faulted { (rows : List Row) → Refines T.state rows server.old [] →
         (T.state server.new.tables).honest →
         OnErr result (FaultsAfter server.old.institutions rows events.items
         (length given.new.items)) }
-    ensures crash { (rows : List Row) → StandsFor T.state rows server.old [] →
+    ensures crash { (rows : List Row) → Refines T.state rows server.old [] →
         (T.state server.new.tables).honest → OnErr result (IsSettled (T.state server.old.tables) →
         (r : List Row) → (T.state server.new.tables).may_leave r →
         IsLeftOf server.old.institutions rows events.items given.new.items
         (T.state server.new.tables).rows r) }
-    ensures whole { (rows : List Row) → StandsFor T.state rows server.old [] →
+    ensures whole { (rows : List Row) → Refines T.state rows server.old [] →
         (T.state server.new.tables).honest →
-        OnOk result (StandsFor T.state rows server.new events.items) }
+        OnOk result (Refines T.state rows server.new events.items) }
     ensures count { MatchResult result
         (λ _. length given.new.items ≡ length events.items)
         (λ fault. (length given.new.items < length events.items) × (fault ≢ Fault.Stopped)) }
     ensures institutions { server.new.institutions ≡ server.old.institutions }
-    ensures goes { Goes (T.state server.old.tables) (T.state server.new.tables) result }
+    ensures goes { HealthAfter (T.state server.old.tables) (T.state server.new.tables) result }
 {
     for event in events {
         let reply = server.step(event)?;

@@ -1,18 +1,18 @@
 //! What messages are answered with, by the service of their context.
 
 ghost use Rattle.std.specs.Prelude.{◌≡◌, ◌≢◌, ◌++◌, [], List, drop, true, IfOk, IfErr, OnOk, OnErr, None, Some};
-ghost use Rattle.dq_dimse.specs.Holding.{StandForAll, StandsFor, StandsOn, plain_message};
+ghost use Rattle.dq_dimse.specs.Holding.{AllRefine, Refines, RefinesOn, plain_message};
 ghost use Rattle.dq_dimse.specs.Received.{Message as Received};
 ghost use Rattle.dq_assoc.specs.Holding.{accepted_by};
 ghost use Rattle.dq_config.specs.Limits.{limits_of};
 ghost use Rattle.dq_tables.specs.Rows.{Record, of};
 ghost use Rattle.dq_find.specs.Lazily.{found_then};
 ghost use Rattle.dq_core.specs.Services.{command_field_of, status_alone, operation_outcome, message_outcome};
-ghost use Rattle.dq_core.specs.Stepping.{Goes, MayLeaveAfter};
+ghost use Rattle.dq_core.specs.Stepping.{HealthAfter, MayLeaveAfter};
 ghost use Rattle.dq_tables.specs.Keeping.{Reads};
 ghost use Rattle.dq_core.specs.Pages.{rest, page};
 ghost use Rattle.dq_core.specs.declared.pages.OpenQuery.{OpenQuery as HeldQuery};
-ghost use Rattle.dq_core.specs.Doing.{Operates, Did, DidPart, Taken as Pure, served_answer, messages_answer, taken_answer};
+ghost use Rattle.dq_core.specs.Effects.{Operates, AnswerApplied, AnswerPartlyApplied, Taken as Pure, served_answer, messages_answer, taken_answer};
 ghost use Rattle.dq_archive.specs.Later.{IsTold};
 ghost use Rattle.dq_core.specs.Queries.{found_left, open_query_of, records_since, query_then, IsBegun};
 ghost use Rattle.dq_core.specs.Slots.{IsTaken};
@@ -25,7 +25,7 @@ use crate::notes::{Notes, ServedNote};
 use crate::pages::OpenQuery;
 use crate::slot::Taken;
 use dq_archive::{Added, Past};
-use dq_assoc::{AgreedContext, Agreement};
+use dq_assoc::{AcceptedContext, Agreement};
 use dq_config::Institution;
 use dq_dataset::{DataSet, Syntax};
 use dq_dimse::{Message, command_field, status};
@@ -82,11 +82,11 @@ fn all_found(alloc: Global, found: Found) -> Answers
 }
 
 /// The answers to a query that began, or the status that refuses it.
-fn sought(alloc: Global, asked: Result<LazyAnswers, u16>) -> Answers
+fn lazy_or_refused(alloc: Global, asked: Result<LazyAnswers, u16>) -> Answers
     ensures { (records : List Record) → found_left records result ≡ found_then asked records }
 {
     match asked {
-        Ok(lazy) => Answers::Sought(lazy),
+        Ok(lazy) => Answers::Lazy(lazy),
         Err(status) => status_alone(alloc, status),
     }
 }
@@ -124,14 +124,14 @@ impl<'a> Provider<'a> {
         log: &mut Listed<Added>,
     ) -> Result<Answers, Fault>
         requires { command_field_of operation ≡ message.now.command.code }
-        ensures serves { (sent : Received) → StandsFor syntax message.now sent →
+        ensures serves { (sent : Received) → Refines syntax message.now sent →
             Operates (T.state tables.old) (T.state tables.new) self.entry.institution.now.name
             (operation_outcome operation self.entry.agreement.now.called syntax
             (limits_of self.entry.institution.now) sent) result }
         ensures told { (T.state tables.new).honest → OnOk result
             (IsTold self.entry.institution.now.name (T.state tables.old).rows
             (T.state tables.new).rows log.old log.new) }
-        ensures goes { Goes (T.state tables.old) (T.state tables.new) result }
+        ensures goes { HealthAfter (T.state tables.old) (T.state tables.new) result }
         ensures fault { IfErr result (λ fault. fault ≢ Fault.Stopped) }
     {
         honest_rows_are_sound::<T>();
@@ -149,7 +149,7 @@ impl<'a> Provider<'a> {
             DimseOperation::FindStudies => {
                 let called = &agreement.called;
                 let asked = begin_find(tables, institution, called, message, syntax)?;
-                Ok(sought(alloc, asked))
+                Ok(lazy_or_refused(alloc, asked))
             }
             DimseOperation::FindEntries => {
                 let found = query(tables, institution, message, syntax)?;
@@ -170,19 +170,19 @@ impl<'a> Provider<'a> {
     /// operation is tested first, and then the class (PS3.7 annex C).
     fn outcome<T: Tables>(
         self,
-        context: AgreedContext,
+        context: AcceptedContext,
         message: &Message,
         tables: &mut T,
         log: &mut Listed<Added>,
     ) -> Result<Answers, Fault>
-        ensures serves { (sent : Received) → StandsFor context.syntax message.now sent →
+        ensures serves { (sent : Received) → Refines context.syntax message.now sent →
             Operates (T.state tables.old) (T.state tables.new) self.entry.institution.now.name
             (message_outcome self.entry.agreement.now context
             (limits_of self.entry.institution.now) sent) result }
         ensures told { (T.state tables.new).honest → OnOk result
             (IsTold self.entry.institution.now.name (T.state tables.old).rows
             (T.state tables.new).rows log.old log.new) }
-        ensures goes { Goes (T.state tables.old) (T.state tables.new) result }
+        ensures goes { HealthAfter (T.state tables.old) (T.state tables.new) result }
         ensures fault { IfErr result (λ fault. fault ≢ Fault.Stopped) }
     {
         let command = &message.command;
@@ -198,7 +198,7 @@ impl<'a> Provider<'a> {
     /// What is to be noted of a message, where notes are kept.
     fn note(
         self,
-        context: AgreedContext,
+        context: AcceptedContext,
         message: &Message,
         notes: &mut Notes,
     ) -> Option<ServedNote> {
@@ -220,18 +220,18 @@ impl<'a> Provider<'a> {
         log: &mut Listed<Added>,
         notes: &mut Notes,
     ) -> Result<Answered, Fault>
-        ensures goes { Goes (T.state tables.old) (T.state tables.new) result }
+        ensures goes { HealthAfter (T.state tables.old) (T.state tables.new) result }
         ensures does { (T.state tables.new).honest → (sent : Received) →
-            StandsOn (accepted_by self.entry.agreement.now) message sent → IfOk result (λ given.
-            Did (Some self.entry.institution.now)
+            RefinesOn (accepted_by self.entry.agreement.now) message sent → IfOk result (λ given.
+            AnswerApplied (Some self.entry.institution.now)
             (served_answer (limits_of self.entry.institution.now) self.entry.agreement.now
             (of self.entry.institution.now.name (T.state tables.old).rows) None sent)
             (T.state tables.old).rows (T.state tables.new).rows octets.items given.octets.items
             (query_then self.entry.institution.now.name (T.state tables.new).rows log.new
             given.query)) }
         ensures stops { (T.state tables.new).honest → (sent : Received) →
-            StandsOn (accepted_by self.entry.agreement.now) message sent → OnErr result (
-            DidPart (Some self.entry.institution.now)
+            RefinesOn (accepted_by self.entry.agreement.now) message sent → OnErr result (
+            AnswerPartlyApplied (Some self.entry.institution.now)
             (served_answer (limits_of self.entry.institution.now) self.entry.agreement.now
             (of self.entry.institution.now.name (T.state tables.old).rows) None sent)
             (T.state tables.old).rows (T.state tables.new).rows
@@ -280,10 +280,10 @@ impl<'a> Provider<'a> {
         log: &mut Listed<Added>,
         notes: &mut Notes,
     ) -> Result<Answered, Fault>
-        ensures goes { Goes (T.state tables.old) (T.state tables.new) result }
+        ensures goes { HealthAfter (T.state tables.old) (T.state tables.new) result }
         ensures does { (T.state tables.new).honest → (sent : Received) →
-            StandsOn (accepted_by self.entry.agreement.now) message sent → IfOk result (λ given.
-            Did (Some self.entry.institution.now)
+            RefinesOn (accepted_by self.entry.agreement.now) message sent → IfOk result (λ given.
+            AnswerApplied (Some self.entry.institution.now)
             (served_answer (limits_of self.entry.institution.now) self.entry.agreement.now
             (of self.entry.institution.now.name (T.state tables.old).rows)
             (query_then self.entry.institution.now.name (T.state tables.old).rows log.old
@@ -293,8 +293,8 @@ impl<'a> Provider<'a> {
             (query_then self.entry.institution.now.name (T.state tables.new).rows log.new
             given.query)) }
         ensures stops { (T.state tables.new).honest → (sent : Received) →
-            StandsOn (accepted_by self.entry.agreement.now) message sent → OnErr result (
-            DidPart (Some self.entry.institution.now)
+            RefinesOn (accepted_by self.entry.agreement.now) message sent → OnErr result (
+            AnswerPartlyApplied (Some self.entry.institution.now)
             (served_answer (limits_of self.entry.institution.now) self.entry.agreement.now
             (of self.entry.institution.now.name (T.state tables.old).rows)
             (query_then self.entry.institution.now.name (T.state tables.old).rows log.old
@@ -331,10 +331,10 @@ impl<'a> Provider<'a> {
         log: &mut Listed<Added>,
         notes: &mut Notes,
     ) -> Result<Answered, Fault>
-        ensures goes { Goes (T.state tables.old) (T.state tables.new) result }
+        ensures goes { HealthAfter (T.state tables.old) (T.state tables.new) result }
         ensures does { (T.state tables.new).honest → (sent : List Received) →
-            StandForAll (accepted_by self.entry.agreement.now) messages.items sent →
-            IfOk result (λ given. Did (Some self.entry.institution.now)
+            AllRefine (accepted_by self.entry.agreement.now) messages.items sent →
+            IfOk result (λ given. AnswerApplied (Some self.entry.institution.now)
             (messages_answer (limits_of self.entry.institution.now) self.entry.agreement.now
             (of self.entry.institution.now.name (T.state tables.old).rows)
             (query_then self.entry.institution.now.name (T.state tables.old).rows log.old
@@ -344,8 +344,8 @@ impl<'a> Provider<'a> {
             (query_then self.entry.institution.now.name (T.state tables.new).rows log.new
             given.query)) }
         ensures stops { (T.state tables.new).honest → (sent : List Received) →
-            StandForAll (accepted_by self.entry.agreement.now) messages.items sent → OnErr result (
-            DidPart (Some self.entry.institution.now)
+            AllRefine (accepted_by self.entry.agreement.now) messages.items sent → OnErr result (
+            AnswerPartlyApplied (Some self.entry.institution.now)
             (messages_answer (limits_of self.entry.institution.now) self.entry.agreement.now
             (of self.entry.institution.now.name (T.state tables.old).rows)
             (query_then self.entry.institution.now.name (T.state tables.old).rows log.old
@@ -377,10 +377,10 @@ impl<'a> Provider<'a> {
         log: &mut Listed<Added>,
         notes: &mut Notes,
     ) -> Result<Answered, Fault>
-        ensures goes { Goes (T.state tables.old) (T.state tables.new) result }
+        ensures goes { HealthAfter (T.state tables.old) (T.state tables.new) result }
         ensures does { (T.state tables.new).honest → (t : Pure) →
             IsTaken (Some self.entry.agreement.now) taken t → IfOk result (λ given.
-            Did (Some self.entry.institution.now)
+            AnswerApplied (Some self.entry.institution.now)
             (taken_answer (limits_of self.entry.institution.now)
             (of self.entry.institution.now.name (T.state tables.old).rows)
             (Some self.entry.agreement.now)
@@ -390,7 +390,7 @@ impl<'a> Provider<'a> {
             given.query)) }
         ensures stops { (T.state tables.new).honest → (t : Pure) →
             IsTaken (Some self.entry.agreement.now) taken t → OnErr result (
-            DidPart (Some self.entry.institution.now)
+            AnswerPartlyApplied (Some self.entry.institution.now)
             (taken_answer (limits_of self.entry.institution.now)
             (of self.entry.institution.now.name (T.state tables.old).rows)
             (Some self.entry.agreement.now)

@@ -10,12 +10,12 @@ ghost use Rattle.dq_assoc.specs.Associations as pure;
 ghost use Rattle.dq_assoc.specs.Associations.{HeldState};
 ghost use Rattle.dq_assoc.specs.Holding.{Stands, held_agreement, held_state};
 ghost use Rattle.dq_config.specs.declared.config.Institution.{Institution};
-ghost use Rattle.dq_core.specs.Doing.{Did, DidPart, Taken as Pure, agreement_after, taken_inputs};
+ghost use Rattle.dq_core.specs.Effects.{AnswerApplied, AnswerPartlyApplied, Taken as Pure, agreement_after, taken_inputs};
 ghost use Rattle.dq_core.specs.Pages.{next_page};
 ghost use Rattle.dq_tables.specs.declared.row.Row.{Row};
 ghost use Rattle.dq_core.specs.Queries.{IsBegun, IsToldBy, query_by};
 ghost use Rattle.dq_core.specs.Slots.{IsTaken, StandsAt, connection_answer, home_of, institution_at, is_searching, query_at, IsBegunAt};
-ghost use Rattle.dq_core.specs.Stepping.{Goes, MayLeaveAfter};
+ghost use Rattle.dq_core.specs.Stepping.{HealthAfter, MayLeaveAfter};
 
 use crate::additions::Additions;
 use crate::fault::Fault;
@@ -108,7 +108,7 @@ impl Slot {
         tables: &mut T,
         notes: &mut Notes,
     ) -> Result<Vec<u8>, Fault>
-        ensures goes { Goes (T.state tables.old) (T.state tables.new) result }
+        ensures goes { HealthAfter (T.state tables.old) (T.state tables.new) result }
         ensures same { (T.state tables.new).honest →
             (T.state tables.new).rows ≡ (T.state tables.old).rows }
         ensures crash { (T.state tables.new).honest → (r : List Row) →
@@ -156,10 +156,10 @@ impl Slot {
         log: &mut Listed<Added>,
         notes: &mut Notes,
     ) -> Result<Vec<u8>, Fault>
-        ensures goes { Goes (T.state tables.old) (T.state tables.new) result }
+        ensures goes { HealthAfter (T.state tables.old) (T.state tables.new) result }
         ensures does { (T.state tables.new).honest → (t : Pure) →
             IsTaken (held_agreement self.old.association) taken t → IfOk result (λ octets.
-            Did (option_copied institution.entry)
+            AnswerApplied (option_copied institution.entry)
             (connection_answer (option_copied institution.entry) (T.state tables.old).rows
             (held_agreement self.old.association)
             (query_by (option_copied institution.entry) (T.state tables.old).rows log.old
@@ -169,7 +169,7 @@ impl Slot {
             self.new.query)) }
         ensures stops { (T.state tables.new).honest → (t : Pure) →
             IsTaken (held_agreement self.old.association) taken t → OnErr result (
-            DidPart (option_copied institution.entry)
+            AnswerPartlyApplied (option_copied institution.entry)
             (connection_answer (option_copied institution.entry) (T.state tables.old).rows
             (held_agreement self.old.association)
             (query_by (option_copied institution.entry) (T.state tables.old).rows log.old

@@ -5,8 +5,8 @@ use Rattle.std.proofs.lemmas.List.{length-append, append-nil, length-take, take-
 use Rattle.dq_dataset.proofs.Types.{Tag, Vr, ReadFault, Truncated, Syntax, Bound, Content, Plain, Sequence, Value, Items, ElementList}
 use Rattle.dq_dataset.specs.declared.sieve.walk.Reach.{Reach}
 use Rattle.dq_dataset.specs.declared.sieve.walk.Reach.TheVariants.{Measured, Within, Endless}
-use Rattle.dq_dataset.specs.declared.sieve.walk.Place.{Place}
-use Rattle.dq_dataset.specs.declared.sieve.walk.Place.TheVariants.{InItems, InElements}
+use Rattle.dq_dataset.specs.declared.sieve.walk.Cursor.{Cursor}
+use Rattle.dq_dataset.specs.declared.sieve.walk.Cursor.TheVariants.{InItems, InElements}
 use Rattle.dq_vr.specs.Dictionary.{known_vr}
 use Rattle.dq_dataset.specs.Rules.{vr_of, fits_enclosing}
 use Rattle.dq_dataset.specs.Reading.{may_nest, length_of}
@@ -104,7 +104,7 @@ short_value : (reach : Reach) (extent : Option ℕ) (left after : ℕ) (header o
 short_value reach extent left after header octets behind short = grind (arith, length-append, lt-leb)
 
 -- a value behind a header, with what follows it
-module _ (reach : Reach) (extent : Option ℕ) (header : List ℕ) (left after : ℕ) (around behind inner : Place)
+module _ (reach : Reach) (extent : Option ℕ) (header : List ℕ) (left after : ℕ) (around behind inner : Cursor)
     (around_is : reach_of around ≡ reach) (behind_is : reach_of behind ≡ reach) (inner_is : reach_of inner ≡ opened_reach reach extent after)
     (header_behind : Behind reach left (length header) after) (room : StaysWithin reach extent after)
     (ends : (v w : List ℕ) → HasExtent extent v → Finishes inner v → Finishes behind w → Finishes around (header ++ (v ++ w)))
@@ -114,7 +114,7 @@ module _ (reach : Reach) (extent : Option ℕ) (header : List ℕ) (left after :
   abbrev now : ℕ
   now = opened_left reach extent after
 
-  leads_in : (outside : List Place) (octets : List ℕ) (end : Option ReadFault) → now ≤ length octets → Leads now (inner ∷ behind ∷ outside) octets end
+  leads_in : (outside : List Cursor) (octets : List ℕ) (end : Option ReadFault) → now ≤ length octets → Leads now (inner ∷ behind ∷ outside) octets end
       → Leads left (around ∷ outside) (header ++ octets) end
   leads_in outside octets end enough (inl s) =
       let r = reached reach extent left after header s.near s.beyond header_behind room (rw inner_is at s.limit) (rw s.parts at enough) in
@@ -149,7 +149,7 @@ module _ (reach : Reach) (extent : Option ℕ) (header : List ℕ) (left after :
         subst (λ (n : ℕ). Leads n outside others end) (left_behind header v w reach extent left after header_behind room value) leads,
       )
 
-  pushed : (outside : List Place) (octets : List ℕ) (end : Option ReadFault) → LeadsTo now (inner ∷ behind ∷ outside) octets end
+  pushed : (outside : List Cursor) (octets : List ℕ) (end : Option ReadFault) → LeadsTo now (inner ∷ behind ∷ outside) octets end
       → LeadsTo left (around ∷ outside) (header ++ octets) end
   pushed outside octets end (inr (enough, leads)) =
       inr (enough_around reach extent left after header octets header_behind enough, leads_in outside octets end enough leads)
@@ -178,7 +178,7 @@ opened_bound reach extent after = grind arith
 opened_until : (reach : Reach) (n after : ℕ) → Measured (until_of (opened_reach reach (Some n) after)) ≡ opened_reach reach (Some n) after
 opened_until reach n after = grind arith
 
-abbrev pub value_place : Content → ℕ → Reach → ℕ → Place
+abbrev pub value_place : Content → ℕ → Reach → ℕ → Cursor
 value_place content levels reach after = place_of_value content levels (opened_reach reach (length_of content) after)
 
 pub value_reach : (content : Content) (levels : ℕ) (reach : Reach) (after : ℕ)
@@ -225,7 +225,7 @@ module _ (syntax : Syntax) (levels : ℕ) (last : Option Tag) (tag : Tag) (conte
       let value = value_spelled levels vr content reach after v nests has is in
       after_element (bound_by reach) syntax levels last (header ++ (v ++ w)) f tag content header v w value.0 placed is_header value.1 stops refl
 
-  pub element_entered : (outside : List Place) (octets : List ℕ) (end : Option ReadFault)
+  pub element_entered : (outside : List Cursor) (octets : List ℕ) (end : Option ReadFault)
       → LeadsTo (opened_left reach (length_of content) after)
       (value_place content levels reach after ∷ InElements syntax levels (Some tag) reach ∷ outside) octets end
       → LeadsTo left (InElements syntax levels last reach ∷ outside) (header ++ octets) end
@@ -240,7 +240,7 @@ module _ (syntax : Syntax) (levels : ℕ) (last : Option Tag) (tag : Tag) (conte
 module _ (syntax : Syntax) (levels : ℕ) (extent : Option ℕ) (reach : Reach) (header : List ℕ) (left after : ℕ)
     (is_header : IsItemHeader extent header)
     (header_behind : Behind reach left (length header) after) (room : StaysWithin reach extent after) where
-  abbrev item_place : Place
+  abbrev item_place : Cursor
   item_place = InElements syntax levels None (opened_reach reach extent after)
 
   item_spelled : (v : List ℕ) (d : ElementList) → Spells (bound_by (opened_reach reach extent after)) syntax levels None v d
@@ -264,7 +264,7 @@ module _ (syntax : Syntax) (levels : ℕ) (extent : Option ℕ) (reach : Reach) 
   item_later v w f has (first, first_spells) stops =
       after_item (bound_by reach) syntax levels (header ++ (v ++ w)) f extent header v w first is_header has (item_spelled v first first_spells) stops refl
 
-  pub item_entered : (outside : List Place) (octets : List ℕ) (end : Option ReadFault)
+  pub item_entered : (outside : List Cursor) (octets : List ℕ) (end : Option ReadFault)
       → LeadsTo (opened_left reach extent after) (item_place ∷ InItems syntax levels reach ∷ outside) octets end
       → LeadsTo left (InItems syntax levels reach ∷ outside) (header ++ octets) end
   item_entered =

@@ -15,7 +15,7 @@ use Rattle.dq_dataset.specs.declared.sieve.walk.Walk.{Walk}
 use Rattle.dq_dataset.specs.declared.sieve.walk.WalkStep.{WalkStep}
 use Rattle.dq_dataset.specs.declared.sieve.walk.WalkStep.TheVariants.{Over}
 use Rattle.dq_dataset.specs.declared.sieve.walk.Reach.TheVariants.{Endless}
-use Rattle.dq_dataset.specs.declared.sieve.walk.Place.TheVariants.{InElements}
+use Rattle.dq_dataset.specs.declared.sieve.walk.Cursor.TheVariants.{InElements}
 use Rattle.dq_dataset.specs.Sieve.{is_over_limit}
 use Rattle.dq_dataset.specs.View.{as_elements, elements_of}
 use Rattle.dq_dataset.specs.Reading.{front_at, end_at, may_nest}

@@ -5,8 +5,8 @@ use Rattle.std.proofs.lemmas.List.{length-append, append-nil}
 use Rattle.dq_dataset.proofs.Types.{Tag, ReadFault, Truncated, Syntax, Filled, Delimited, Header, no_elements}
 use Rattle.dq_dataset.specs.declared.sieve.walk.Reach.{Reach}
 use Rattle.dq_dataset.specs.declared.sieve.walk.Reach.TheVariants.{Measured, Within, Endless}
-use Rattle.dq_dataset.specs.declared.sieve.walk.Place.{Place}
-use Rattle.dq_dataset.specs.declared.sieve.walk.Place.TheVariants.{InItems, InElements}
+use Rattle.dq_dataset.specs.declared.sieve.walk.Cursor.{Cursor}
+use Rattle.dq_dataset.specs.declared.sieve.walk.Cursor.TheVariants.{InItems, InElements}
 use Rattle.dq_dataset.specs.declared.sieve.walk.Walk.{Walk}
 use Rattle.dq_dataset.specs.declared.sieve.walk.WalkStep.TheVariants.{Failed}
 use Rattle.dq_dataset.specs.Rules.{fits_enclosing}
@@ -101,7 +101,7 @@ module _ (walk : Walk) (syntax : Syntax) (levels : ℕ) (reach : Reach) (come : 
   module _ (extent : Option ℕ) (rest : List ℕ) (after : ℕ) (e : item_front_at front ≡ Ok (extent, rest)) (after_is : after ≡ walk.left - length front)
       (room : StaysWithin reach extent after) (inner : Reach) (now : ℕ) (inner_is : inner ≡ opened_reach reach extent after)
       (now_is : now ≡ opened_left reach extent after) where
-    abbrev item_inner : Place
+    abbrev item_inner : Cursor
     item_inner = InElements syntax levels None inner
 
     pub item_nested : AreNested now (item_inner ∷ InItems syntax levels reach ∷ reverse walk.around.items)
@@ -203,7 +203,7 @@ module _ (walk : Walk) (syntax : Syntax) (levels : ℕ) (last : Option Tag) (rea
   module _ (after : ℕ) (after_is : after ≡ walk.left - length octets_of_header) (room : StaysWithin reach (length_of header.content) after)
       (inner : Reach) (now : ℕ) (inner_is : inner ≡ opened_reach reach (length_of header.content) after)
       (now_is : now ≡ opened_left reach (length_of header.content) after) where
-    abbrev behind : Place
+    abbrev behind : Cursor
     behind = InElements syntax levels (Some header.tag) reach
 
     pub element_nested : AreNested now (place_of_value header.content levels inner ∷ behind ∷ reverse walk.around.items)

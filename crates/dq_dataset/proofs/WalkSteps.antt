@@ -5,8 +5,8 @@ use Rattle.std.proofs.lemmas.List.{length-append, length-take}
 use Rattle.dq_dataset.proofs.Types.{ReadFault, Truncated, Filled, Delimited, Content}
 use Rattle.dq_dataset.specs.declared.sieve.walk.Reach.{Reach}
 use Rattle.dq_dataset.specs.declared.sieve.walk.Reach.TheVariants.{Measured, Within, Endless}
-use Rattle.dq_dataset.specs.declared.sieve.walk.Place.{Place}
-use Rattle.dq_dataset.specs.declared.sieve.walk.Place.TheVariants.{InOctets}
+use Rattle.dq_dataset.specs.declared.sieve.walk.Cursor.{Cursor}
+use Rattle.dq_dataset.specs.declared.sieve.walk.Cursor.TheVariants.{InOctets}
 use Rattle.dq_dataset.specs.declared.sieve.walk.Walk.{Walk}
 use Rattle.dq_dataset.specs.declared.sieve.walk.WalkStep.{WalkStep}
 use Rattle.dq_dataset.specs.declared.sieve.walk.WalkStep.TheVariants.{On, Over, Failed}
@@ -61,7 +61,7 @@ waits_on walk come part other = grind (arith, has_more_by, come_within)
 
 -- ---- settling
 
-lies_within : (reach : Reach) (left : ℕ) (around : List Place) → LiesIn reach left around → Around reach left 0
+lies_within : (reach : Reach) (left : ℕ) (around : List Cursor) → LiesIn reach left around → Around reach left 0
 lies_within reach left around lies = grind arith
 
 pub settled_on : (walk : Walk) → IsSettling walk → is_reached (reach_of walk.place) walk.left ≡ false → IsWalk walk
@@ -80,7 +80,7 @@ settled_over walk s is none octets end h =
     let all : walk.front.items ++ octets ≡ [] = rw s.empty h.0 in
     rw none (closed walk.place [] walk.left walk.left (walk.front.items ++ octets) end is refl (inr (omega (arith, lies), (all, h.1))))
 
-pub settled_once : (walk : Walk) → IsSettling walk → reach_of walk.place ≡ Measured walk.left → (around : List Place) (place : Place)
+pub settled_once : (walk : Walk) → IsSettling walk → reach_of walk.place ≡ Measured walk.left → (around : List Cursor) (place : Cursor)
     → walk.around.items ≡ around ++ place ∷ []
     → AreNested walk.left (place ∷ reverse around)
     × ((octets : List ℕ) (end : Option ReadFault) → LeadsTo walk.left (place ∷ reverse around) (walk.front.items ++ octets) end → WalkLeads walk octets end)
@@ -88,7 +88,7 @@ settled_once walk s is around place e =
     let outside = popped walk.around.items around place e in (
       rw (is, outside) at s.nested.1,
       λ octets end leads. closed walk.place (reverse walk.around.items) walk.left walk.left (walk.front.items ++ octets) end is refl
-          (subst (λ (ps : List Place). LeadsTo walk.left ps (walk.front.items ++ octets) end) (sym outside) leads),
+          (subst (λ (ps : List Cursor). LeadsTo walk.left ps (walk.front.items ++ octets) end) (sym outside) leads),
     )
 
 -- ---- the next walk
@@ -131,14 +131,14 @@ passes walk next until octets count is place_is le enough left_is same_place aro
     }) (λ more end leads. rw (none, place_is)
     (passed_over until walk.left (reverse walk.around.items) (take count octets) more end (omega arith)
     (subst (λ (n : ℕ). LeadsTo n (InOctets until ∷ reverse walk.around.items) more end) (left_is ∙ ap (λ (n : ℕ). walk.left - n) (sym taken))
-    (subst (λ (ps : List Place). LeadsTo next.left ps more end) (λ i. (same_place ∙ place_is) i ∷ reverse (around_is i)) leads))))
+    (subst (λ (ps : List Cursor). LeadsTo next.left ps more end) (λ i. (same_place ∙ place_is) i ∷ reverse (around_is i)) leads))))
 
 end_extends : (reach : Reach) (left : ℕ) (front : List ℕ) → Around reach left (length front) → (reach ≡ Within (until_of reach)) ⊎ (reach ≡ Endless)
     → Extends reach left front × ((length front ≤ left) ⊎ (left ≡ 0))
 end_extends reach left front within h = grind arith
 
 module _ (walk : Walk) (come : HasCome walk) (has : HasEnd walk.place walk.front.items) where
-  abbrev outside : List Place
+  abbrev outside : List Cursor
   outside = reverse walk.around.items
 
   end_leads : (octets : List ℕ) (end : Option ReadFault) → LeadsTo (walk.left - length walk.front.items) outside octets end → WalkLeads walk octets end
@@ -154,28 +154,28 @@ module _ (walk : Walk) (come : HasCome walk) (has : HasEnd walk.place walk.front
   pub ends_over : walk.around.items ≡ [] → LeadsOn walk [] Over
   ends_over none = grind (arith, end_nested, end_leads)
 
-  pub ends_in : (next : Walk) (around : List Place) → walk.around.items ≡ around ++ next.place ∷ [] → next.left ≡ walk.left - length walk.front.items
+  pub ends_in : (next : Walk) (around : List Cursor) → walk.around.items ≡ around ++ next.place ∷ [] → next.left ≡ walk.left - length walk.front.items
       → next.around.items ≡ around → next.front.items ≡ [] → Next walk [] next
   ends_in next around e left_is around_is front_is =
-      let same : outside ≡ places_of next = popped walk.around.items around next.place e ∙ ap (λ (ps : List Place). next.place ∷ reverse ps) (sym around_is) in
+      let same : outside ≡ places_of next = popped walk.around.items around next.place e ∙ ap (λ (ps : List Cursor). next.place ∷ reverse ps) (sym around_is) in
       next_by walk [] next (record {
         nested = subst (λ (n : ℕ). AreNested n (places_of next)) (sym left_is)
-            (subst (λ (ps : List Place). AreNested (walk.left - length walk.front.items) ps) same end_nested);
+            (subst (λ (ps : List Cursor). AreNested (walk.left - length walk.front.items) ps) same end_nested);
         empty = front_is;
       }) (λ octets end leads. end_leads octets end
-      (subst (λ (ps : List Place). LeadsTo (walk.left - length walk.front.items) ps octets end) (sym same)
+      (subst (λ (ps : List Cursor). LeadsTo (walk.left - length walk.front.items) ps octets end) (sym same)
       (subst (λ (n : ℕ). LeadsTo n (places_of next) octets end) left_is leads)))
 
 -- a value is entered
-pub enters : (walk next : Walk) (behind : Place) → AreNested next.left (next.place ∷ behind ∷ reverse walk.around.items)
+pub enters : (walk next : Walk) (behind : Cursor) → AreNested next.left (next.place ∷ behind ∷ reverse walk.around.items)
     → ((octets : List ℕ) (end : Option ReadFault) → LeadsTo next.left (next.place ∷ behind ∷ reverse walk.around.items) octets end
     → WalkLeads walk octets end)
     → next.around.items ≡ walk.around.items ++ behind ∷ [] → next.front.items ≡ [] → Next walk [] next
 enters walk next behind lies leads around_is front_is =
     let same : places_of next ≡ next.place ∷ behind ∷ reverse walk.around.items =
-    ap (λ (ps : List Place). next.place ∷ ps) (popped next.around.items walk.around.items behind around_is) in
-    next_by walk [] next (record { nested = subst (λ (ps : List Place). AreNested next.left ps) (sym same) lies; empty = front_is })
-    (λ octets end l. leads octets end (subst (λ (ps : List Place). LeadsTo next.left ps octets end) same l))
+    ap (λ (ps : List Cursor). next.place ∷ ps) (popped next.around.items walk.around.items behind around_is) in
+    next_by walk [] next (record { nested = subst (λ (ps : List Cursor). AreNested next.left ps) (sym same) lies; empty = front_is })
+    (λ octets end l. leads octets end (subst (λ (ps : List Cursor). LeadsTo next.left ps octets end) same l))
 
 -- an octet of a header comes
 pub comes : (walk next : Walk) (octets : List ℕ) (octet : ℕ) → IsWalk walk → 0 < length octets → octet ≡ get_or octets 0 0

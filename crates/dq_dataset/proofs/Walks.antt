@@ -5,8 +5,8 @@ use Rattle.std.proofs.lemmas.List.{length-append, append-nil, length-take, take-
 use Rattle.dq_dataset.proofs.Types.{ReadFault, Truncated, Filled, Delimited, no_elements}
 use Rattle.dq_dataset.specs.declared.sieve.walk.Reach.{Reach}
 use Rattle.dq_dataset.specs.declared.sieve.walk.Reach.TheVariants.{Measured, Within, Endless}
-use Rattle.dq_dataset.specs.declared.sieve.walk.Place.{Place}
-use Rattle.dq_dataset.specs.declared.sieve.walk.Place.TheVariants.{InOctets, InItems, InElements}
+use Rattle.dq_dataset.specs.declared.sieve.walk.Cursor.{Cursor}
+use Rattle.dq_dataset.specs.declared.sieve.walk.Cursor.TheVariants.{InOctets, InItems, InElements}
 use Rattle.dq_dataset.specs.Grammar.{no_more, no_item}
 use Rattle.dq_dataset.specs.Sifting.{reach_of, bound_by, Finishes, HasFirstFault, Extends, IsSplitByReach, Leads, LeadsTo, FaultLeads, AreNested, IsPart, HasMore}
 use Rattle.dq_dataset.proofs.Fronts.{truncated, item_truncated}
@@ -14,13 +14,13 @@ use Rattle.dq_dataset.proofs.Fronts.{truncated, item_truncated}
 -- ---- one place
 
 -- a place that is finished: what follows leads on from those around it
-pub finished : (place : Place) (around : List Place) (left : ℕ) (value octets : List ℕ) (end : Option ReadFault) → Finishes place value
+pub finished : (place : Cursor) (around : List Cursor) (left : ℕ) (value octets : List ℕ) (end : Option ReadFault) → Finishes place value
     → Extends (reach_of place) left value → length value ≤ left ⊎ (left ≡ 0) → LeadsTo (left - length value) around octets end
     → LeadsTo left (place ∷ around) (value ++ octets) end
 finished place around left value octets end is extends fits_in h9 = grind (arith, length-append)
 
 -- what fills its length is over when nothing is left of it
-pub is_empty : (place : Place) (until : ℕ) → reach_of place ≡ Measured until → Finishes place []
+pub is_empty : (place : Cursor) (until : ℕ) → reach_of place ≡ Measured until → Finishes place []
 is_empty (InOctets n) until e = tt
 is_empty (InItems syntax levels (Measured n)) until e = ([], no_item Filled syntax levels [] refl)
 is_empty (InItems syntax levels (Within n)) until e = absurd cc
@@ -30,7 +30,7 @@ is_empty (InElements syntax levels last (Within n)) until e = absurd cc
 is_empty (InElements syntax levels last Endless) until e = absurd cc
 
 -- some of the octets of a value
-pub passed : (until left : ℕ) (around : List Place) (taken octets : List ℕ) (end : Option ReadFault) → length taken + until ≤ left
+pub passed : (until left : ℕ) (around : List Cursor) (taken octets : List ℕ) (end : Option ReadFault) → length taken + until ≤ left
     → LeadsTo (left - length taken) (InOctets until ∷ around) octets end → LeadsTo left (InOctets until ∷ around) (taken ++ octets) end
 passed until left around taken octets end le (inl (short, cut)) = inl (omega (arith, length-append taken octets), cut)
 passed until left around taken octets end le (inr (enough, inl s)) = absurd s.stops
@@ -75,7 +75,7 @@ short_of : (reach : Reach) (left : ℕ) (front octets : List ℕ) → Around rea
 short_of reach left front octets within short = grind (arith, length-append)
 
 -- a fault of the front and of all that is within reach behind it
-pub failed : (place : Place) (around : List Place) (left : ℕ) (front octets : List ℕ) (fault : ReadFault) (end : Option ReadFault)
+pub failed : (place : Cursor) (around : List Cursor) (left : ℕ) (front octets : List ℕ) (fault : ReadFault) (end : Option ReadFault)
     → Around (reach_of place) left (length front)
     → ((t beyond : List ℕ) → IsSplitByReach (reach_of place) left (front ++ t) beyond → HasFirstFault place (front ++ t) fault)
     → FaultLeads fault (left - length front) octets end → LeadsTo left (place ∷ around) (front ++ octets) end
@@ -97,7 +97,7 @@ failed place around left front octets fault end within stops (inr (enough, is)) 
     )
 
 -- the same, where it is Truncated in any case
-pub cut_off : (place : Place) (around : List Place) (left missing : ℕ) (front octets : List ℕ) (end : Option ReadFault)
+pub cut_off : (place : Cursor) (around : List Cursor) (left missing : ℕ) (front octets : List ℕ) (end : Option ReadFault)
     → Around (reach_of place) left (length front)
     → ((t beyond : List ℕ) → IsSplitByReach (reach_of place) left (front ++ t) beyond → HasFirstFault place (front ++ t) Truncated)
     → FaultLeads Truncated missing octets end → LeadsTo left (place ∷ around) (front ++ octets) end
@@ -109,7 +109,7 @@ cut_off place around left missing front octets end within stops leads =
     ]
 
 -- what is not whole is Truncated where nothing follows
-pub stops_in_part : (place : Place) (front : List ℕ) → IsPart place front → (bound_by (reach_of place) ≡ Delimited) ⊎ (0 < length front)
+pub stops_in_part : (place : Cursor) (front : List ℕ) → IsPart place front → (bound_by (reach_of place) ≡ Delimited) ⊎ (0 < length front)
     → HasFirstFault place front Truncated
 stops_in_part place front is h = grind (arith, item_truncated, truncated)
 
@@ -118,14 +118,14 @@ nothing_near front t beyond until left limit full =
     ap (λ (x : List ℕ). front ++ x) (nil_from_length t (omega (arith, length-append front t))) ∙ append-nil front
 
 -- a header of which nothing more is within reach
-pub part_is_cut_off : (place : Place) (around : List Place) (left missing until : ℕ) (front octets : List ℕ) (end : Option ReadFault)
+pub part_is_cut_off : (place : Cursor) (around : List Cursor) (left missing until : ℕ) (front octets : List ℕ) (end : Option ReadFault)
     → IsPart place front → (reach_of place ≡ Within until) ⊎ ((reach_of place ≡ Measured until) × (0 < length front)) → length front + until ≡ left
     → FaultLeads Truncated missing octets end → LeadsTo left (place ∷ around) (front ++ octets) end
 part_is_cut_off place around left missing until front octets end is h9 full leads =
     grind (arith, cut_off, nothing_near, stops_in_part)
 
 -- with no defined length around, all that came is within reach
-unfinished_endless : (place : Place) (around : List Place) (left : ℕ) (front : List ℕ) → reach_of place ≡ Endless → left ≡ 0 → HasFirstFault place front Truncated
+unfinished_endless : (place : Cursor) (around : List Cursor) (left : ℕ) (front : List ℕ) → reach_of place ≡ Endless → left ≡ 0 → HasFirstFault place front Truncated
     → LeadsTo left (place ∷ around) front (Some Truncated)
 unfinished_endless place around left front endless none stops =
     inr (
@@ -134,7 +134,7 @@ unfinished_endless place around left front endless none stops =
     )
 
 -- a walk that ends with octets missing is Truncated
-pub unfinished : (place : Place) (around : List Place) (left : ℕ) (front : List ℕ) → AreNested left (place ∷ around) → IsPart place front
+pub unfinished : (place : Cursor) (around : List Cursor) (left : ℕ) (front : List ℕ) → AreNested left (place ∷ around) → IsPart place front
     → HasMore (reach_of place) left front → LeadsTo left (place ∷ around) front (Some Truncated)
 unfinished (InOctets until) around left front lies part left_over = inl (omega arith, refl)
 unfinished (InItems syntax levels (Measured until)) around left front lies part left_over = inl (omega arith, refl)
@@ -150,9 +150,9 @@ unfinished (InElements syntax levels last Endless) around left front lies part l
 -- ---- closing
 
 -- what is full is closed
-pub closed : (place : Place) (around : List Place) (left until : ℕ) (octets : List ℕ) (end : Option ReadFault) → reach_of place ≡ Measured until
+pub closed : (place : Cursor) (around : List Cursor) (left until : ℕ) (octets : List ℕ) (end : Option ReadFault) → reach_of place ≡ Measured until
     → until ≡ left → LeadsTo left around octets end → LeadsTo left (place ∷ around) octets end
 closed place around left until octets end is full leads = grind (arith, finished, is_empty)
 
-pub popped : (old new : List Place) (place : Place) → old ≡ new ++ place ∷ [] → reverse old ≡ place ∷ reverse new
+pub popped : (old new : List Cursor) (place : Cursor) → old ≡ new ++ place ∷ [] → reverse old ≡ place ∷ reverse new
 popped old new place e = ap reverse e ∙ reverse-append new (place ∷ [])

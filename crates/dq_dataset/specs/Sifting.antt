@@ -11,8 +11,8 @@ use Rattle.dq_dataset.specs.declared.header.Content.{Content}
 use Rattle.dq_dataset.specs.declared.header.Content.TheVariants.{Plain, Sequence}
 use Rattle.dq_dataset.specs.declared.sieve.walk.Reach.{Reach}
 use Rattle.dq_dataset.specs.declared.sieve.walk.Reach.TheVariants.{Measured, Within, Endless}
-use Rattle.dq_dataset.specs.declared.sieve.walk.Place.{Place}
-use Rattle.dq_dataset.specs.declared.sieve.walk.Place.TheVariants.{InOctets, InItems, InElements}
+use Rattle.dq_dataset.specs.declared.sieve.walk.Cursor.{Cursor}
+use Rattle.dq_dataset.specs.declared.sieve.walk.Cursor.TheVariants.{InOctets, InItems, InElements}
 use Rattle.dq_dataset.specs.declared.sieve.walk.Walk.{Walk}
 use Rattle.dq_dataset.specs.declared.sieve.walk.WalkStep.{WalkStep}
 use Rattle.dq_dataset.specs.declared.sieve.walk.WalkStep.TheVariants.{On, Over, Failed}
@@ -26,7 +26,7 @@ use Rattle.dq_dataset.specs.Faults.{HasFault, ItemsHaveFault}
 
 -- ---- places
 
-abbrev pub reach_of : Place → Reach
+abbrev pub reach_of : Cursor → Reach
 reach_of (InOctets until) = Measured until
 reach_of (InItems syntax levels reach) = reach
 reach_of (InElements syntax levels last reach) = reach
@@ -42,7 +42,7 @@ until_of (Within until) = until
 until_of Endless = 0
 
 -- The octets are what is due at the place.
-abbrev pub Finishes : Place → List ℕ → Type 0
+abbrev pub Finishes : Cursor → List ℕ → Type 0
 Finishes (InOctets until) octets = Unit {0}
 Finishes (InItems syntax levels reach) octets =
     (items : List ElementList) × SpellsItems (bound_by reach) syntax levels octets items
@@ -50,7 +50,7 @@ Finishes (InElements syntax levels last reach) octets =
     (d : ElementList) × Spells (bound_by reach) syntax levels last octets d
 
 -- The octets, which are all within reach, have this first fault.
-abbrev pub HasFirstFault : Place → List ℕ → ReadFault → Type 0
+abbrev pub HasFirstFault : Cursor → List ℕ → ReadFault → Type 0
 HasFirstFault (InOctets until) octets fault = ⊥
 HasFirstFault (InItems syntax levels reach) octets fault =
     ItemsHaveFault (bound_by reach) syntax levels octets fault
@@ -71,7 +71,7 @@ IsSplitByReach Endless left near beyond = beyond ≡ []
 
 -- ---- where octets lead
 
-pub record Stopped (place : Place) (left : ℕ) (octets : List ℕ) (end : Option ReadFault)
+pub record Stopped (place : Cursor) (left : ℕ) (octets : List ℕ) (end : Option ReadFault)
     : Type 0 where
   pub near : List ℕ
   pub beyond : List ℕ
@@ -82,7 +82,7 @@ pub record Stopped (place : Place) (left : ℕ) (octets : List ℕ) (end : Optio
   pub is : end ≡ Some fault
 
 -- With the innermost place first: the octets lead to the end of all places, or to a fault.
-abbrev pub Leads : ℕ → List Place → List ℕ → Option ReadFault → Type 0
+abbrev pub Leads : ℕ → List Cursor → List ℕ → Option ReadFault → Type 0
 Leads left [] octets end = (octets ≡ []) × (end ≡ None)
 Leads left (place ∷ around) octets end =
     Stopped place left octets end
@@ -91,7 +91,7 @@ Leads left (place ∷ around) octets end =
     × Leads (left - length value) around rest end)
 
 -- Where octets of the outermost length are missing, that is the fault.
-abbrev pub LeadsTo : ℕ → List Place → List ℕ → Option ReadFault → Type 0
+abbrev pub LeadsTo : ℕ → List Cursor → List ℕ → Option ReadFault → Type 0
 LeadsTo left places octets end =
     ((length octets < left) × (end ≡ Some Truncated))
     ⊎ ((left ≤ length octets) × Leads left places octets end)
@@ -102,7 +102,7 @@ FaultLeads fault missing octets end =
     ((length octets < missing) × (end ≡ Some Truncated))
     ⊎ ((missing ≤ length octets) × (end ≡ Some fault))
 
-abbrev pub places_of : Walk → List Place
+abbrev pub places_of : Walk → List Cursor
 places_of walk = walk.place ∷ reverse walk.around.items
 
 abbrev pub WalkLeads : Walk → List ℕ → Option ReadFault → Type 0
@@ -143,7 +143,7 @@ HasNoRoom (Within until) (Some n) left = left < n + until
 HasNoRoom reach extent left = ⊥
 
 -- The place of a value, behind the header of an element.
-abbrev pub place_of_value : Content → ℕ → Reach → Place
+abbrev pub place_of_value : Content → ℕ → Reach → Cursor
 place_of_value (Plain n) levels reach = InOctets (until_of reach)
 place_of_value (Sequence syntax extent) levels reach = InItems syntax (levels - 1) reach
 
@@ -154,12 +154,12 @@ IsUntil (Measured n) until = n ≡ until
 IsUntil (Within n) until = n ≡ until
 IsUntil Endless until = ⊥
 
-abbrev pub EndsAt : List Place → ℕ → Type 0
+abbrev pub EndsAt : List Cursor → ℕ → Type 0
 EndsAt [] until = ⊥
 EndsAt (place ∷ around) until = IsUntil (reach_of place) until
 
 -- A place lies within what is around it.
-abbrev pub LiesIn : Reach → ℕ → List Place → Type 0
+abbrev pub LiesIn : Reach → ℕ → List Cursor → Type 0
 LiesIn (Measured until) left around = until ≤ left
 LiesIn (Within until) left around = (until ≤ left) × EndsAt around until
 LiesIn Endless left around = left ≡ 0
@@ -169,13 +169,13 @@ left_around (Measured until) left = until
 left_around (Within until) left = left
 left_around Endless left = left
 
-abbrev pub AreNested : ℕ → List Place → Type 0
+abbrev pub AreNested : ℕ → List Cursor → Type 0
 AreNested left [] = left ≡ 0
 AreNested left (place ∷ around) =
     LiesIn (reach_of place) left around × AreNested (left_around (reach_of place) left) around
 
 -- The octets of a header that came are not the whole header.
-abbrev pub IsPart : Place → List ℕ → Type 0
+abbrev pub IsPart : Cursor → List ℕ → Type 0
 IsPart (InOctets until) front = front ≡ []
 IsPart (InItems syntax levels reach) front = item_front_at front ≡ Err Truncated
 IsPart (InElements syntax levels last reach) front =
@@ -213,7 +213,7 @@ is_reached (Within until) left = until == left
 is_reached Endless left = false
 
 -- The octets that came are the end of what is open.
-pub record HasEnd (place : Place) (front : List ℕ) : Type 0 where
+pub record HasEnd (place : Cursor) (front : List ℕ) : Type 0 where
   pub ends : Finishes place front
   pub reach : (reach_of place ≡ Within (until_of (reach_of place))) ⊎ (reach_of place ≡ Endless)
 

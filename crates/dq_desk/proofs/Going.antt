@@ -8,7 +8,7 @@ use Rattle.dq_core.specs.declared.event.Event.{Event}
 use Rattle.dq_core.specs.declared.event.Event.TheVariants as event
 use Rattle.dq_core.specs.declared.event.Reply.{Reply}
 use Rattle.dq_core.specs.Looking.{Looked}
-use Rattle.dq_core.specs.Standing.{Standing}
+use Rattle.dq_core.specs.ServerView.{ServerView}
 use Rattle.dq_tables.specs.declared.row.Row.{Row}
 use Rattle.dq_tables.specs.Keeping.{State}
 use Rattle.dq_wires.specs.declared.calls.Call.{Call}
@@ -38,34 +38,34 @@ use Rattle.dq_desk.specs.Requests.{Orders, Answered, order_in, LooksInPart, Orde
 module _ {Tables : Type 0} (state : Tables → State) where
   -- the laws of servings that are used
   abbrev pub TurnsServe : Type 0
-  TurnsServe = (rows : List Row) (before now after : Option (List Call)) (first mid next : Standing Tables) (hold to : Hold) (acts : List Act) (count : ℕ)
+  TurnsServe = (rows : List Row) (before now after : Option (List Call)) (first mid next : ServerView Tables) (hold to : Hold) (acts : List Act) (count : ℕ)
       → Serving state rows before now first mid hold acts → (went : TurnsWent (Moves state) now after mid next hold to count)
       → Serving state rows before after first next to (acts ++ all_turned went.turns)
 
   abbrev pub OrdersServe : Type 0
-  OrdersServe = (rows : List Row) (before now : Option (List Call)) (first mid next : Standing Tables) (hold : Hold) (acts : List Act) (event : Event)
+  OrdersServe = (rows : List Row) (before now : Option (List Call)) (first mid next : ServerView Tables) (hold : Hold) (acts : List Act) (event : Event)
       (reply : Reply) → Serving state rows before now first mid hold acts → IsOrder event → Stepped state mid next event reply
       → Serving state rows before now first next hold (acts ++ Ordered event reply ∷ [])
 
   abbrev pub LooksServe : Type 0
-  LooksServe = (rows : List Row) (before now : Option (List Call)) (first mid next : Standing Tables) (hold : Hold) (acts : List Act)
+  LooksServe = (rows : List Row) (before now : Option (List Call)) (first mid next : ServerView Tables) (hold : Hold) (acts : List Act)
       → Serving state rows before now first mid hold acts → Looked state mid next → Serving state rows before now first next hold acts
 
   abbrev pub WholeServes : Type 0
-  WholeServes = (rows : List Row) (before now : Option (List Call)) (first last : Standing Tables) (hold : Hold) (acts : List Act)
+  WholeServes = (rows : List Row) (before now : Option (List Call)) (first last : ServerView Tables) (hold : Hold) (acts : List Act)
       → Serving state rows before now first last hold acts → ServedOver state rows first last acts NoRoom
 
   abbrev pub TurnsCutServe : Type 0
-  TurnsCutServe = (rows : List Row) (before now after : Option (List Call)) (first mid new : Standing Tables) (hold : Hold) (acts : List Act) (count : ℕ)
+  TurnsCutServe = (rows : List Row) (before now after : Option (List Call)) (first mid new : ServerView Tables) (hold : Hold) (acts : List Act) (count : ℕ)
       (fault : TurnFault) → Serving state rows before now first mid hold acts
       → (off : TurnsCut (Moves state) (Fails state) now after mid new hold count fault)
       → ServedOver state rows first off.mid (acts ++ all_turned off.turns) off.cut
 
   abbrev pub StepsServe : Type 0
-  StepsServe = (old new : Standing Tables) (steps : List Step) → Runs (Moves state) old new steps → Serves state old new steps
+  StepsServe = (old new : ServerView Tables) (steps : List Step) → Runs (Moves state) old new steps → Serves state old new steps
 
   abbrev pub RowsServe : Type 0
-  RowsServe = (rows : List Row) (first last : Standing Tables) (acts : List Act) (cut : Cut) → ServedOver state rows first last acts cut
+  RowsServe = (rows : List Row) (first last : ServerView Tables) (acts : List Act) (cut : Cut) → ServedOver state rows first last acts cut
       → (state last.tables).honest → (state last.tables).rows ≡ (world_after first.institutions rows (served_events acts cut)).rows
 
   -- what holds of a server's institutions and rows holds of those of the serving, after its acts
@@ -197,7 +197,7 @@ module _ {Tables : Type 0} (state : Tables → State) where
     }
 
   -- a turner as it was, but for its server
-  abbrev at-server : Turning Tables → Standing Tables → Turning Tables
+  abbrev at-server : Turning Tables → ServerView Tables → Turning Tables
   at-server old at = record { server = at; hold = old.hold; fault = old.fault }
 
   -- an order that is not answered, of the line that asks for it
@@ -207,7 +207,7 @@ module _ {Tables : Type 0} (state : Tables → State) where
   of-line octets asked (Some order) tells is = (asked, tells, is)
 
   -- it was done, and there is no memory for its answer
-  pub unanswered-after : (copied : List Row → Type 0) (names : List (List ℕ)) (old new : Standing Tables) (asked : Request) (answer : Response)
+  pub unanswered-after : (copied : List Row → Type 0) (names : List (List ℕ)) (old new : ServerView Tables) (asked : Request) (answer : Response)
       → Answered state copied names old new asked answer → Unanswered state old new asked
   unanswered-after copied names old new (request.Search it) answer is = (new, is.0, inl refl)
   unanswered-after copied names old new (request.Counts name) answer is = (new, is.0, inl refl)

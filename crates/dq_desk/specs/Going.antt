@@ -1,7 +1,7 @@
 -- How a service goes on while the console and the web front are attended to.
 use Rattle.std.specs.Prelude.{◌≡◌, List, ◌++◌, Option, None}
 use Rattle.dq_config.specs.declared.config.Institution.{Institution}
-use Rattle.dq_core.specs.Standing.{Standing}
+use Rattle.dq_core.specs.ServerView.{ServerView}
 use Rattle.dq_tables.specs.declared.row.Row.{Row}
 use Rattle.dq_tables.specs.Keeping.{State}
 use Rattle.dq_wires.specs.declared.calls.Call.{Call}
@@ -16,7 +16,7 @@ AreHonest {Tables} state = (tables : Tables) → (state tables).honest
 -- from `before` to `after`.
 pub record WentOn {Tables : Type 0} (state : Tables → State) (before after : Option (List Call))
     (old new : Turning Tables) (acts : List Act) : Type 0 where
-  pub serves : (rows : List Row) (start : Option (List Call)) (first : Standing Tables)
+  pub serves : (rows : List Row) (start : Option (List Call)) (first : ServerView Tables)
       (done : List Act) → Serving state rows start before first old.server old.hold done
       → Serving state rows start after first new.server new.hold (done ++ acts)
   pub working : old.fault ≡ None → new.fault ≡ None
@@ -32,7 +32,7 @@ Attended state old new orders =
 abbrev pub HoldsAt : {Tables : Type 0} → (Tables → State) → Option (List Call) → Turning Tables
     → (List Institution → List Row → List Act → Type 0) → Type 0
 HoldsAt {Tables} state now old AreSo = AreHonest state → (rows : List Row)
-    (start : Option (List Call)) (first : Standing Tables) (done : List Act)
+    (start : Option (List Call)) (first : ServerView Tables) (done : List Act)
     → Serving state rows start now first old.server old.hold done
     → AreSo first.institutions rows done
 

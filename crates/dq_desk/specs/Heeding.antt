@@ -20,7 +20,7 @@ use Rattle.dq_desk.specs.declared.caller.Next.TheVariants as next
 use Rattle.dq_desk.specs.Console.{Calling, HasNone, HasLine, first_line, without_line, TakesMore, MayBring, with_octets, after_write, LineAnswer, IsLineAnswer, line_answer_text, answer_acts, is_unread, caller_with_answer, Heed, IsHeed, heed_calls, heed_acts, after_heed, Letting, IsLetting, letting_calls, with_let_in, Visit, caller_of, callers_kept, visit_calls, visit_acts, IsShut, AreVisits, IsUnanswered, IsLineUnanswered, order_acts, Answering, IsAnswer, TellsOf, asked_acts, IsAnsweringIf, AskedTells, AttendingTells, Attending, IsAttending, attending_calls, attending_acts, after_attending, Interruption, IsInterruption, interruption_calls, interruption_acts, rows_after, TellsRows, HeedTells, VisitsTell}
 use Rattle.dq_request.specs.declared.request.Request.{Request}
 use Rattle.dq_request.specs.declared.response.Response.{Response}
-use Rattle.dq_core.specs.Standing.{Standing}
+use Rattle.dq_core.specs.ServerView.{ServerView}
 use Rattle.dq_desk.specs.declared.lines.Line.{Line}
 use Rattle.dq_desk.specs.declared.lines.Line.TheVariants as line
 use Rattle.dq_desk.specs.Lines.{response_text, misspelled_text, bad_line}
@@ -95,7 +95,7 @@ module _ {Tables : Type 0} (state : Tables → State) where
 -- what is answered to a line, and what a fault leaves
 module _ {Tables : Type 0} (state : Tables → State) (copied : List Row → Type 0)
     (names : List (List ℕ)) where
-  abbrev pub LineAnswered : Standing Tables → Standing Tables → Line → List ℕ → Type 0
+  abbrev pub LineAnswered : ServerView Tables → ServerView Tables → Line → List ℕ → Type 0
   LineAnswered old new (line.Asked asked) text = (answer : Response)
       × Answered state copied names old new asked answer × (text ≡ response_text answer)
   LineAnswered old new (line.Misspelled word) text =
@@ -103,7 +103,7 @@ module _ {Tables : Type 0} (state : Tables → State) (copied : List Row → Typ
   LineAnswered old new line.Bad text = (new ≡ old) × (text ≡ bad_line)
 
 module _ {Tables : Type 0} (state : Tables → State) where
-  abbrev pub LineUnanswered : Standing Tables → Standing Tables → Line → Type 0
+  abbrev pub LineUnanswered : ServerView Tables → ServerView Tables → Line → Type 0
   LineUnanswered old new (line.Asked asked) = Unanswered state old new asked
   LineUnanswered old new other = new ≡ old
 

@@ -20,7 +20,7 @@ use Rattle.dq_core.specs.declared.showing.SearchKind.TheVariants as among
 use Rattle.dq_core.specs.declared.showing.ShownPage.{ShownPage}
 use Rattle.dq_core.specs.Looking.{Looked, FailsToLook}
 use Rattle.dq_core.specs.Showing.{found_for, steps_for}
-use Rattle.dq_core.specs.Standing.{Standing}
+use Rattle.dq_core.specs.ServerView.{ServerView}
 use Rattle.dq_wires.specs.Stepping.{Stepped, Fails}
 use Rattle.dq_request.specs.declared.request.Request.{Request}
 use Rattle.dq_request.specs.declared.request.Request.TheVariants as request
@@ -120,13 +120,13 @@ backup_response (Err refusal) = response.Refused (cause.Copy refusal)
 -- ---- what is done for a request
 
 -- An order was stepped, and its reply is the answer.
-abbrev pub Orders : {Tables : Type 0} → (Tables → State) → Standing Tables → Standing Tables → Event → Response
-    → Type 0
+abbrev pub Orders : {Tables : Type 0} → (Tables → State) → ServerView Tables → ServerView Tables
+    → Event → Response → Type 0
 Orders state old new event response =
     (reply : Reply) × Stepped state old new event reply × (response ≡ order_response reply)
 
 -- The rows were looked at, and the answer is of them.
-abbrev pub Shows : {Tables : Type 0} → (Tables → State) → Standing Tables → Standing Tables
+abbrev pub Shows : {Tables : Type 0} → (Tables → State) → ServerView Tables → ServerView Tables
     → (List Row → Response) → Response → Type 0
 Shows state old new answer response = Looked state old new
     × ((state new.tables).honest → response ≡ answer (state old.tables).rows)
@@ -134,7 +134,7 @@ Shows state old new answer response = Looked state old new
 -- A copy of all rows was asked for. The server is as it was, whether it is made or not. `Done` says that what a
 -- copy of these rows is is there.
 pub record BacksUp {Tables : Type 0} (state : Tables → State) (copied : List Row → Type 0)
-    (old new : Standing Tables) (answer : Response) : Type 0 where
+    (old new : ServerView Tables) (answer : Response) : Type 0 where
   pub looked : Looked state old new
   pub made : Result (Unit {0}) Uncopied
   pub answer_is : answer ≡ backup_response made
@@ -143,7 +143,7 @@ pub record BacksUp {Tables : Type 0} (state : Tables → State) (copied : List R
 -- What is answered to a request, by a server of institutions with these names.
 module _ {Tables : Type 0} (state : Tables → State) (copied : List Row → Type 0)
     (names : List (List ℕ)) where
-  abbrev pub Answered : Standing Tables → Standing Tables → Request → Response → Type 0
+  abbrev pub Answered : ServerView Tables → ServerView Tables → Request → Response → Type 0
   Answered old new (request.Search search) answer =
       Shows state old new (λ rows. search_response old.institutions rows search) answer
   Answered old new (request.Counts name) answer =
@@ -157,21 +157,21 @@ module _ {Tables : Type 0} (state : Tables → State) (copied : List Row → Typ
 
 -- What a fault leaves of a server: it is as it was, or it failed at an event or at a look.
 module _ {Tables : Type 0} (state : Tables → State) where
-  abbrev pub IsLeft : Standing Tables → Standing Tables → Type 0
+  abbrev pub IsLeft : ServerView Tables → ServerView Tables → Type 0
   IsLeft old new = (new ≡ old) ⊎ ((event : Event) × (why : Fault) × Fails state old new event why)
       ⊎ ((why : Fault) × FailsToLook state old new why)
 
   -- some looks, and then a fault
-  abbrev pub LooksInPart : Standing Tables → Standing Tables → Type 0
-  LooksInPart old new = (last : Standing Tables) × Looked state old last × IsLeft last new
+  abbrev pub LooksInPart : ServerView Tables → ServerView Tables → Type 0
+  LooksInPart old new = (last : ServerView Tables) × Looked state old last × IsLeft last new
 
   -- an order failed, or was stepped and there is no memory for the answer
-  abbrev pub OrdersInPart : Standing Tables → Standing Tables → Event → Type 0
+  abbrev pub OrdersInPart : ServerView Tables → ServerView Tables → Event → Type 0
   OrdersInPart old new event = (new ≡ old) ⊎ ((why : Fault) × Fails state old new event why)
       ⊎ ((reply : Reply) × Stepped state old new event reply)
 
   -- A request is not answered, for a fault: its order was done in part, or nothing but looks came about.
-  abbrev pub Unanswered : Standing Tables → Standing Tables → Request → Type 0
+  abbrev pub Unanswered : ServerView Tables → ServerView Tables → Request → Type 0
   Unanswered old new (request.Schedule institution octets) =
       OrdersInPart old new (event.Schedule institution octets)
   Unanswered old new (request.Withdraw institution id) =

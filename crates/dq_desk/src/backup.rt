@@ -3,7 +3,7 @@ ghost use Rattle.std.specs.Prelude.{List, OnOk};
 ghost use Rattle.dq_tables.specs.declared.row.Row.{Row};
 ghost use Rattle.dq_core.specs.Looking.{LeavesAlone};
 
-use dq_core::Look;
+use dq_core::TableInspection;
 use dq_request::Uncopied;
 use dq_tables::Tables;
 use std::alloc::Global;
@@ -40,7 +40,7 @@ pub struct Copying<'a, B> {
     pub path: &'a str,
 }
 
-impl<T: Tables, B: Backups<T>> Look<T> for Copying<'_, B> {
+impl<T: Tables, B: Backups<T>> TableInspection<T> for Copying<'_, B> {
     ghost use Rattle.std.specs.Prelude.{OnOk};
 
     type Seen = Result<(), Uncopied>;

@@ -5,17 +5,17 @@ use Rattle.dq_pdu.specs.declared.pdu.Pdv.{Pdv}
 use Rattle.dq_pdu.specs.Octets.{is_number_among}
 use Rattle.dq_dataset.specs.declared.header.Syntax.{Syntax}
 use Rattle.dq_dimse.specs.declared.assembler.Accepted.{Accepted}
-use Rattle.dq_dimse.specs.declared.assembler.Begun.{Begun}
+use Rattle.dq_dimse.specs.declared.assembler.PendingMessage.{PendingMessage}
 use Rattle.dq_dimse.specs.declared.assembler.PartialMessage.{PartialMessage as HeldGathered}
 use Rattle.dq_dimse.specs.declared.assembler.PartialMessage.TheVariants as held
-use Rattle.dq_dimse.specs.declared.assembler.Part.{Part}
-use Rattle.dq_dimse.specs.declared.assembler.Part.TheVariants as part
+use Rattle.dq_dimse.specs.declared.assembler.IncomingDataSet.{IncomingDataSet}
+use Rattle.dq_dimse.specs.declared.assembler.IncomingDataSet.TheVariants as incoming
 use Rattle.dq_dimse.specs.declared.command.Command.{Command}
 use Rattle.dq_dimse.specs.declared.fault.DimseFault.TheVariants.{WrongContext, WrongKind, BadCommand}
 use Rattle.dq_dimse.specs.Assembling.{PartialMessage, Nothing, CommandPart, DataPart, Spent, stops_at, gathers, completes, command_completed, command_gathered, after_command, with_fragment, begun_with, gather, gather_all, new_assembly, assembly_from}
 use Rattle.dq_dimse.specs.CommandFields.{c_store}
 use Rattle.dq_dimse.specs.Commands.{command_of}
-use Rattle.dq_dimse.specs.Holding.{Holding, HasGathered, PartStandsFor, WasGivenPdvs, octets_of_part, octets_gathered, gathered_limit, SiftsWithin}
+use Rattle.dq_dimse.specs.Holding.{Holding, HasGathered, IncomingRefines, WasGivenPdvs, octets_of_incoming, octets_gathered, gathered_limit, SiftsWithin}
 use Rattle.dq_dimse.specs.Messages.{store_limit, other_limit}
 use Rattle.dq_dimse.specs.Received.{Message}
 
@@ -85,19 +85,19 @@ limit_by : (stored : Bool) → stored ≡ false → cond stored store_limit othe
 limit_by true e = absurd (false≢true (sym e))
 limit_by false e = refl
 
-part_within : (syntax : Syntax) (held : Part) (m : Message) → PartStandsFor syntax held m → length (octets_of_part held) ≤ 1048576
-part_within syntax (part.Octets octets) m h = subst (λ (n : ℕ). length octets ≤ n) (limit_by (m.command.code == c_store) h.0) h.3
-part_within syntax (part.Sifting sieve room) m h = omega arith
-part_within syntax part.Over m h = omega arith
+part_within : (syntax : Syntax) (held : IncomingDataSet) (m : Message) → IncomingRefines syntax held m → length (octets_of_incoming held) ≤ 1048576
+part_within syntax (incoming.Octets octets) m h = subst (λ (n : ℕ). length octets ≤ n) (limit_by (m.command.code == c_store) h.0) h.3
+part_within syntax (incoming.Sifting sieve room) m h = omega arith
+part_within syntax incoming.ExceededLimit m h = omega arith
 
 stored_limit : (stored : Bool) → cond stored store_limit other_limit ≤ store_limit
 stored_limit true = omega arith
 stored_limit false = omega arith
 
-part_sifted : (syntax : Syntax) (held : Part) (m : Message) → PartStandsFor syntax held m → SiftsWithin syntax held store_limit
-part_sifted syntax (part.Octets octets) m h = tt
-part_sifted syntax (part.Sifting sieve room) m h = grind (arith, stored_limit)
-part_sifted syntax part.Over m h = tt
+part_sifted : (syntax : Syntax) (held : IncomingDataSet) (m : Message) → IncomingRefines syntax held m → SiftsWithin syntax held store_limit
+part_sifted syntax (incoming.Octets octets) m h = tt
+part_sifted syntax (incoming.Sifting sieve room) m h = grind (arith, stored_limit)
+part_sifted syntax incoming.ExceededLimit m h = tt
 
 -- ---- what is gathered
 
@@ -112,10 +112,10 @@ pub held_within : (accepted : List Accepted) (pdvs : List Pdv) (holding : Holdin
     → length (octets_gathered holding.gathered) ≤ gathered_limit holding.gathered
 held_within accepted pdvs holding given = grind (arith, gathered_within, given_short)
 
-begun_sifted : (accepted : List Accepted) (begun : Begun) (g : PartialMessage) → HasGathered accepted (held.DataPart begun) g
+begun_sifted : (accepted : List Accepted) (begun : PendingMessage) (g : PartialMessage) → HasGathered accepted (held.DataPart begun) g
     → SiftsWithin begun.context.syntax begun.data_set store_limit
 begun_sifted accepted begun g has = part_sifted begun.context.syntax begun.data_set has.1 has.3.data_set
 
-pub sifted_within : (accepted : List Accepted) (pdvs : List Pdv) (holding : Holding) (begun : Begun) → WasGivenPdvs accepted pdvs holding
+pub sifted_within : (accepted : List Accepted) (pdvs : List Pdv) (holding : Holding) (begun : PendingMessage) → WasGivenPdvs accepted pdvs holding
     → holding.gathered ≡ held.DataPart begun → SiftsWithin begun.context.syntax begun.data_set store_limit
 sifted_within accepted pdvs holding begun given e = grind (arith, begun_sifted)

@@ -11,8 +11,8 @@ use Rattle.dq_dataset.specs.declared.header.Syntax.{Syntax}
 use Rattle.dq_dimse.specs.declared.assembler.Accepted.{Accepted}
 use Rattle.dq_dimse.specs.declared.assembler.PartialMessage.{PartialMessage as HeldGathered}
 use Rattle.dq_dimse.specs.declared.assembler.PartialMessage.TheVariants as held
-use Rattle.dq_dimse.specs.declared.assembler.Part.{Part}
-use Rattle.dq_dimse.specs.declared.assembler.Part.TheVariants as part
+use Rattle.dq_dimse.specs.declared.assembler.IncomingDataSet.{IncomingDataSet}
+use Rattle.dq_dimse.specs.declared.assembler.IncomingDataSet.TheVariants as incoming
 use Rattle.dq_dimse.specs.declared.command.Body.{Body}
 use Rattle.dq_dimse.specs.declared.command.Body.TheVariants as body
 use Rattle.dq_dimse.specs.declared.command.Message.{Message as HeldMessage}
@@ -20,7 +20,7 @@ use Rattle.dq_dimse.specs.declared.fault.DimseFault.{DimseFault}
 use Rattle.dq_dimse.specs.declared.fault.DimseFault.TheVariants.{WrongContext}
 use Rattle.dq_dimse.specs.Assembling.{PartialMessage, Nothing, stops_at, after_command, IsPdvKept, IsKeptCommand, Assembly, with_fragment}
 use Rattle.dq_dimse.specs.Assembling.{gather, gathering_fault, messages, messages_from, assembly_from, new_assembly, followed_by, spent_by}
-use Rattle.dq_dimse.specs.Holding.{BodyStandsFor, StandsFor, StandForAll, is_sifted, is_stored, octets_held, plain_message, PartStandsFor}
+use Rattle.dq_dimse.specs.Holding.{BodyRefines, Refines, AllRefine, is_sifted, is_stored, octets_held, plain_message, IncomingRefines}
 use Rattle.dq_dimse.specs.Holding.{HasGathered, Holding, Assembles, WasGivenPdvs, MakesGathering, AddsMessage, accepted_with, fault_held, accepted_ids, spent_with}
 use Rattle.dq_dimse.specs.Messages.{data_limit}
 use Rattle.dq_dimse.specs.Received.{Message}
@@ -29,15 +29,15 @@ use Rattle.dq_dimse.proofs.Assemblies.{read_off, messages_from-append, assembly_
 
 -- ---- a data set
 
-pub part_discarded : (syntax : Syntax) (held : Part) (m : Message) → PartStandsFor syntax held m → m.over ≡ true → m.octets ≡ []
-part_discarded syntax (part.Octets octets) m h e = absurd (false≢true (sym h.1 ∙ e))
-part_discarded syntax (part.Sifting sieve room) m h e = absurd (false≢true (sym h.1 ∙ e))
-part_discarded syntax part.Over m h e = h.1
+pub part_discarded : (syntax : Syntax) (held : IncomingDataSet) (m : Message) → IncomingRefines syntax held m → m.over ≡ true → m.octets ≡ []
+part_discarded syntax (incoming.Octets octets) m h e = absurd (false≢true (sym h.1 ∙ e))
+part_discarded syntax (incoming.Sifting sieve room) m h e = absurd (false≢true (sym h.1 ∙ e))
+part_discarded syntax incoming.ExceededLimit m h e = h.1
 
-pub part_short : (syntax : Syntax) (held : Part) (m : Message) → PartStandsFor syntax held m → m.over ≡ false → length m.octets ≤ data_limit m.command
-part_short syntax (part.Octets octets) m h e = subst (λ (xs : List ℕ). length xs ≤ data_limit m.command) h.2 h.3
-part_short syntax (part.Sifting sieve room) m h e = (let is = h.2 in omega (arith, is))
-part_short syntax part.Over m h e = absurd (false≢true (sym e ∙ h.0))
+pub part_short : (syntax : Syntax) (held : IncomingDataSet) (m : Message) → IncomingRefines syntax held m → m.over ≡ false → length m.octets ≤ data_limit m.command
+part_short syntax (incoming.Octets octets) m h e = subst (λ (xs : List ℕ). length xs ≤ data_limit m.command) h.2 h.3
+part_short syntax (incoming.Sifting sieve room) m h e = (let is = h.2 in omega (arith, is))
+part_short syntax incoming.ExceededLimit m h e = absurd (false≢true (sym e ∙ h.0))
 
 -- a fragment for which there is room
 abbrev grown : Message → List ℕ → Bool → Message
@@ -46,10 +46,10 @@ grown m fragment over = record { context = m.context; command = m.command; octet
 with_room : (m : Message) (fragment : List ℕ) → m.over ≡ false → length (m.octets ++ fragment) ≤ data_limit m.command → with_fragment m fragment ≡ grown m fragment false
 with_room m fragment e short = grind (arith, le-ltb)
 
-pub part_fed : (syntax : Syntax) (next : Part) (m : Message) (fragment : List ℕ) → m.over ≡ false
-    → length (m.octets ++ fragment) ≤ data_limit m.command → PartStandsFor syntax next (grown m fragment false)
-    → PartStandsFor syntax next (with_fragment m fragment)
-part_fed syntax next m fragment e short h = subst (PartStandsFor syntax next) (sym (with_room m fragment e short)) h
+pub part_fed : (syntax : Syntax) (next : IncomingDataSet) (m : Message) (fragment : List ℕ) → m.over ≡ false
+    → length (m.octets ++ fragment) ≤ data_limit m.command → IncomingRefines syntax next (grown m fragment false)
+    → IncomingRefines syntax next (with_fragment m fragment)
+part_fed syntax next m fragment e short h = subst (IncomingRefines syntax next) (sym (with_room m fragment e short)) h
 
 -- ---- the context of a PDV
 
@@ -169,32 +169,32 @@ with_octets : (held : HeldMessage) (m : Message) (octets : List ℕ) → held.co
     → octets ≡ m.octets → record { context = held.context; command = held.command; octets = octets; over = held.over } ≡ m
 with_octets held m octets c k o e = grind arith
 
-octets_are : (syntax : Syntax) (body : Body) (octets : List ℕ) → is_sifted body ≡ false → BodyStandsFor syntax body octets → octets_held body ≡ octets
+octets_are : (syntax : Syntax) (body : Body) (octets : List ℕ) → is_sifted body ≡ false → BodyRefines syntax body octets → octets_held body ≡ octets
 octets_are syntax (body.Octets held) octets e h = h
 octets_are syntax (body.Sifted answer) octets e h = absurd cc
 
-pub plain_is : (syntax : Syntax) (held : HeldMessage) (m : Message) → StandsFor syntax held m → is_sifted held.body ≡ false → plain_message held ≡ m
+pub plain_is : (syntax : Syntax) (held : HeldMessage) (m : Message) → Refines syntax held m → is_sifted held.body ≡ false → plain_message held ≡ m
 plain_is syntax held m h e =
     with_octets held m (octets_held held.body) h.context h.command h.over (octets_are syntax held.body m.octets e h.body)
 
 -- a message that is no C-STORE, and one that passed its limit
-pub plain_unless_stored : (syntax : Syntax) (held : HeldMessage) (m : Message) → StandsFor syntax held m → is_stored m.command ≡ false
+pub plain_unless_stored : (syntax : Syntax) (held : HeldMessage) (m : Message) → Refines syntax held m → is_stored m.command ≡ false
     → plain_message held ≡ m
 plain_unless_stored syntax held m h e = plain_is syntax held m h (h.sifted ∙ ap (λ (b : Bool). b && not m.over) e)
 
-pub plain_if_over : (syntax : Syntax) (held : HeldMessage) (m : Message) → StandsFor syntax held m → m.over ≡ true → plain_message held ≡ m
+pub plain_if_over : (syntax : Syntax) (held : HeldMessage) (m : Message) → Refines syntax held m → m.over ≡ true → plain_message held ≡ m
 plain_if_over syntax held m h e =
     plain_is syntax held m h (h.sifted ∙ ap (λ (b : Bool). is_stored m.command && not b) e ∙ and-false (is_stored m.command))
 
-pub plain_held : (syntax : Syntax) (held : HeldMessage) (m : Message) → StandsFor syntax held m → (is_stored m.command ≡ false) ⊎ (m.over ≡ true)
+pub plain_held : (syntax : Syntax) (held : HeldMessage) (m : Message) → Refines syntax held m → (is_stored m.command ≡ false) ⊎ (m.over ≡ true)
     → plain_message held ≡ m
 plain_held syntax held m h (inl e) = plain_unless_stored syntax held m h e
 plain_held syntax held m h (inr e) = plain_if_over syntax held m h e
 
 -- ---- messages, one by one
 
-pub stand_append : (accepted : List Accepted) (xs ys : List HeldMessage) (ms ns : List Message) → StandForAll accepted xs ms
-    → StandForAll accepted ys ns → StandForAll accepted (xs ++ ys) (ms ++ ns)
+pub stand_append : (accepted : List Accepted) (xs ys : List HeldMessage) (ms ns : List Message) → AllRefine accepted xs ms
+    → AllRefine accepted ys ns → AllRefine accepted (xs ++ ys) (ms ++ ns)
 stand_append accepted [] ys [] ns h k = k
 stand_append accepted (x ∷ xs) ys (m ∷ ms) ns h k = (h.0, stand_append accepted xs ys ms ns h.1 k)
 stand_append accepted [] ys (m ∷ ms) ns h k = absurd h

@@ -6,11 +6,11 @@ use Rattle.dq_dataset.specs.declared.header.Syntax.{Syntax}
 use Rattle.dq_dataset.specs.Sieve.{IsSifted}
 use Rattle.dq_dataset.specs.Sieving.{SieveAfter}
 use Rattle.dq_dimse.specs.declared.assembler.Accepted.{Accepted}
-use Rattle.dq_dimse.specs.declared.assembler.Begun.{Begun}
+use Rattle.dq_dimse.specs.declared.assembler.PendingMessage.{PendingMessage}
 use Rattle.dq_dimse.specs.declared.assembler.PartialMessage.{PartialMessage as HeldGathered}
 use Rattle.dq_dimse.specs.declared.assembler.PartialMessage.TheVariants as held
-use Rattle.dq_dimse.specs.declared.assembler.Part.{Part}
-use Rattle.dq_dimse.specs.declared.assembler.Part.TheVariants as part
+use Rattle.dq_dimse.specs.declared.assembler.IncomingDataSet.{IncomingDataSet}
+use Rattle.dq_dimse.specs.declared.assembler.IncomingDataSet.TheVariants as incoming
 use Rattle.dq_dimse.specs.declared.command.Body.{Body}
 use Rattle.dq_dimse.specs.declared.command.Body.TheVariants.{Octets, Sifted}
 use Rattle.dq_dimse.specs.declared.command.Command.{Command}
@@ -35,9 +35,9 @@ accepted_with id accepted = find (λ (c : Accepted). c.id == id) accepted
 -- ---- messages
 
 -- A body stands for the octets of a data set: it is these, or what the kept attributes leave of it.
-abbrev pub BodyStandsFor : Syntax → Body → List ℕ → Type 0
-BodyStandsFor syntax (Octets held) octets = held ≡ octets
-BodyStandsFor syntax (Sifted answer) octets = IsSifted syntax kept_attributes octets answer
+abbrev pub BodyRefines : Syntax → Body → List ℕ → Type 0
+BodyRefines syntax (Octets held) octets = held ≡ octets
+BodyRefines syntax (Sifted answer) octets = IsSifted syntax kept_attributes octets answer
 
 abbrev pub is_sifted : Body → Bool
 is_sifted (Octets held) = false
@@ -47,30 +47,30 @@ is_sifted (Sifted answer) = true
 abbrev pub is_stored : Command → Bool
 is_stored command = command.code == c_store
 
--- What is held stands for a message, the transfer syntax of whose context this is.
-pub record StandsFor (syntax : Syntax) (held : HeldMessage) (message : Message) : Type 0 where
+-- What is held refines a message, the transfer syntax of whose context this is: it stands for it.
+pub record Refines (syntax : Syntax) (held : HeldMessage) (message : Message) : Type 0 where
   pub context : held.context ≡ message.context
   pub command : held.command ≡ message.command
   pub over : held.over ≡ message.over
-  pub body : BodyStandsFor syntax held.body message.octets
+  pub body : BodyRefines syntax held.body message.octets
   pub sifted : is_sifted held.body ≡ (is_stored message.command && not message.over)
   pub discarded : message.over ≡ true → message.octets ≡ []
   pub short : message.over ≡ false → length message.octets ≤ data_limit message.command
 
 -- It stands for a message on one of the accepted contexts.
-pub record StandsOn (accepted : List Accepted) (held : HeldMessage) (message : Message) : Type 0
+pub record RefinesOn (accepted : List Accepted) (held : HeldMessage) (message : Message) : Type 0
   where
     pub context : Accepted
     pub found : accepted_with message.context accepted ≡ Some context
-    pub stands : StandsFor context.syntax held message
+    pub stands : Refines context.syntax held message
 
 -- messages, one by one
-abbrev pub StandForAll : List Accepted → List HeldMessage → List Message → Type 0
-StandForAll accepted [] [] = Unit {0}
-StandForAll accepted (held ∷ helds) (message ∷ messages) =
-    StandsOn accepted held message × StandForAll accepted helds messages
-StandForAll accepted [] (message ∷ messages) = ⊥
-StandForAll accepted (held ∷ helds) [] = ⊥
+abbrev pub AllRefine : List Accepted → List HeldMessage → List Message → Type 0
+AllRefine accepted [] [] = Unit {0}
+AllRefine accepted (held ∷ helds) (message ∷ messages) =
+    RefinesOn accepted held message × AllRefine accepted helds messages
+AllRefine accepted [] (message ∷ messages) = ⊥
+AllRefine accepted (held ∷ helds) [] = ⊥
 
 -- The message of what is held, where its octets are held. Where they are sifted it has none.
 abbrev pub octets_held : Body → List ℕ
@@ -89,21 +89,22 @@ plain_message held = record {
 
 -- What came of a data set: its octets; those of a C-STORE in a sieve, and the number of those for
 -- which there is room; or nothing is held of it, since it passed its limit.
-abbrev pub PartStandsFor : Syntax → Part → Message → Type 0
-PartStandsFor syntax (part.Octets octets) message =
+abbrev pub IncomingRefines : Syntax → IncomingDataSet → Message → Type 0
+IncomingRefines syntax (incoming.Octets octets) message =
     (is_stored message.command ≡ false) × (message.over ≡ false) × (octets ≡ message.octets)
     × (length octets ≤ data_limit message.command)
-PartStandsFor syntax (part.Sifting sieve room) message =
+IncomingRefines syntax (incoming.Sifting sieve room) message =
     (is_stored message.command ≡ true) × (message.over ≡ false)
     × (room + length message.octets ≡ data_limit message.command)
     × SieveAfter syntax kept_attributes message.octets sieve
-PartStandsFor syntax part.Over message = (message.over ≡ true) × (message.octets ≡ [])
+IncomingRefines syntax incoming.ExceededLimit message =
+    (message.over ≡ true) × (message.octets ≡ [])
 
 -- What is held stands for a message whose data set is still to come.
-pub record HasBegun (begun : Begun) (message : Message) : Type 0 where
+pub record PendingRefines (begun : PendingMessage) (message : Message) : Type 0 where
   pub context : begun.context.id ≡ message.context
   pub command : begun.command ≡ message.command
-  pub data_set : PartStandsFor begun.context.syntax begun.data_set message
+  pub data_set : IncomingRefines begun.context.syntax begun.data_set message
 
 -- what an assembler gathered
 abbrev pub HasGathered : List Accepted → HeldGathered → PartialMessage → Type 0
@@ -112,7 +113,7 @@ HasGathered accepted (held.CommandPart context octets) gathered =
     (accepted_with context.id accepted ≡ Some context) × (gathered ≡ CommandPart context.id octets)
 HasGathered accepted (held.DataPart begun) gathered =
     (accepted_with begun.context.id accepted ≡ Some begun.context)
-    × (message : Message) × (gathered ≡ DataPart message) × HasBegun begun message
+    × (message : Message) × (gathered ≡ DataPart message) × PendingRefines begun message
 HasGathered accepted (held.Spent fault) gathered = gathered ≡ Spent fault
 
 -- ---- an assembler
@@ -145,16 +146,16 @@ spent_with holding = fault_held holding.gathered
 -- ---- how much is held of a message to come
 
 -- The octets that are held of a data set. Those of a C-STORE are in a sieve.
-abbrev pub octets_of_part : Part → List ℕ
-octets_of_part (part.Octets octets) = octets
-octets_of_part (part.Sifting sieve room) = []
-octets_of_part part.Over = []
+abbrev pub octets_of_incoming : IncomingDataSet → List ℕ
+octets_of_incoming (incoming.Octets octets) = octets
+octets_of_incoming (incoming.Sifting sieve room) = []
+octets_of_incoming incoming.ExceededLimit = []
 
 -- the fragments that are held: of a command set, or of a data set
 abbrev pub octets_gathered : HeldGathered → List ℕ
 octets_gathered held.Nothing = []
 octets_gathered (held.CommandPart context octets) = octets
-octets_gathered (held.DataPart begun) = octets_of_part begun.data_set
+octets_gathered (held.DataPart begun) = octets_of_incoming begun.data_set
 octets_gathered (held.Spent fault) = []
 
 -- how many they may be
@@ -165,25 +166,25 @@ gathered_limit (held.DataPart begun) = other_limit
 gathered_limit (held.Spent fault) = 0
 
 -- the sieve that a data set is in was fed so many octets at most
-abbrev pub SiftsWithin : Syntax → Part → ℕ → Type 0
-SiftsWithin syntax (part.Octets octets) limit = Unit {0}
-SiftsWithin syntax (part.Sifting sieve room) limit =
+abbrev pub SiftsWithin : Syntax → IncomingDataSet → ℕ → Type 0
+SiftsWithin syntax (incoming.Octets octets) limit = Unit {0}
+SiftsWithin syntax (incoming.Sifting sieve room) limit =
     (octets : List ℕ) × SieveAfter syntax kept_attributes octets sieve × (length octets ≤ limit)
-SiftsWithin syntax part.Over limit = Unit {0}
+SiftsWithin syntax incoming.ExceededLimit limit = Unit {0}
 
 -- ---- what taking a PDV answers
 
 -- a message, or none
-abbrev pub StandsForOne : List Accepted → Option HeldMessage → List Message → Type 0
-StandsForOne accepted None messages = messages ≡ []
-StandsForOne accepted (Some held) messages =
-    (message : Message) × (messages ≡ message ∷ []) × StandsOn accepted held message
+abbrev pub RefinesOne : List Accepted → Option HeldMessage → List Message → Type 0
+RefinesOne accepted None messages = messages ≡ []
+RefinesOne accepted (Some held) messages =
+    (message : Message) × (messages ≡ message ∷ []) × RefinesOn accepted held message
 
 -- The message that a PDV adds to those before, or the fault; or memory ran out.
 abbrev pub AddsMessage : List Accepted → Result (Option HeldMessage) DimseFault → List Message → Messages
     → Type 0
 AddsMessage accepted (Ok held) before after =
-    (added : List Message) × StandsForOne accepted held added
+    (added : List Message) × RefinesOne accepted held added
     × (after ≡ record { list = before ++ added; fault = None })
 AddsMessage accepted (Err fault) before after =
     (fault ≡ NoMemory) ⊎ (after ≡ record { list = before; fault = Some fault })
@@ -192,5 +193,5 @@ AddsMessage accepted (Err fault) before after =
 abbrev pub MakesGathering : List Accepted → Result (Option HeldMessage × HeldGathered) DimseFault → Gathering
     → Type 0
 MakesGathering accepted (Ok x) made =
-    StandsForOne accepted x.0 made.list × HasGathered accepted x.1 made.gathered
+    RefinesOne accepted x.0 made.list × HasGathered accepted x.1 made.gathered
 MakesGathering accepted (Err fault) made = (fault ≡ NoMemory) ⊎ (made ≡ stops_at fault)

@@ -6,7 +6,7 @@ pub mod CommandFields
 pub mod CommandSets
 pub mod Commands
 pub mod Holding
-pub mod LentCommands
+pub mod CommandRefs
 pub mod Limits
 pub mod Messages
 pub mod Received

@@ -8,8 +8,8 @@ ghost use Rattle.dq_dimse.specs.Assembling.{command_completed, gather, with_frag
 ghost use Rattle.dq_dimse.specs.Assembling.{messages, messages_from, assembly_from};
 ghost use Rattle.dq_dimse.specs.Assembling.{IsPdvKept, IsKeptCommand, IsKeptData, NeedsMemory};
 ghost use Rattle.dq_dimse.specs.Commands.{command_of};
-ghost use Rattle.dq_dimse.specs.Holding.{AddsMessage, Assembles, HasBegun, HasGathered, MakesGathering};
-ghost use Rattle.dq_dimse.specs.Holding.{BodyStandsFor, PartStandsFor, StandsFor, WasGivenPdvs};
+ghost use Rattle.dq_dimse.specs.Holding.{AddsMessage, Assembles, PendingRefines, HasGathered, MakesGathering};
+ghost use Rattle.dq_dimse.specs.Holding.{BodyRefines, IncomingRefines, Refines, WasGivenPdvs};
 ghost use Rattle.dq_dimse.specs.Holding.{accepted_with, fault_held, accepted_ids, is_sifted, is_stored, spent_with};
 ghost use Rattle.dq_dimse.specs.Messages.{data_limit};
 
@@ -41,21 +41,21 @@ pub struct Accepted {
 
 /// What came of a data set.
 #[derive(Drop)]
-pub(crate) enum Part {
+pub(crate) enum IncomingDataSet {
     /// Its fragments so far.
     Octets(Listed<u8>),
     /// Those of a C-STORE in a sieve, and the number of octets for which there is room.
     Sifting(Sieve, usize),
     /// It passed its limit, and is discarded.
-    Over,
+    ExceededLimit,
 }
 
 /// A message whose command set is whole, and whose data set is still to come.
 #[derive(Drop)]
-pub(crate) struct Begun {
+pub(crate) struct PendingMessage {
     pub context: Accepted,
     pub command: Command,
-    pub data_set: Part,
+    pub data_set: IncomingDataSet,
 }
 
 /// What an assembler holds between two PDVs.
@@ -64,7 +64,7 @@ pub(crate) enum PartialMessage {
     Nothing,
     /// The fragments of a command set so far, and their context.
     CommandPart(Accepted, Listed<u8>),
-    DataPart(Begun),
+    DataPart(PendingMessage),
     Spent(DimseFault),
 }
 
@@ -106,84 +106,84 @@ fn data_limit(command: &Command) -> usize
     }
 }
 
-impl Part {
+impl IncomingDataSet {
     /// What came of the data set of a command before its first fragment.
-    fn of(alloc: Global, command: &Command, syntax: Syntax) -> Part
-        ensures { (context : ℕ) → PartStandsFor syntax result (begun_with context command.now) }
+    fn of(alloc: Global, command: &Command, syntax: Syntax) -> IncomingDataSet
+        ensures { (context : ℕ) → IncomingRefines syntax result (begun_with context command.now) }
     {
         if command.code == command_field::C_STORE {
             let sieve = Sieve::new(alloc, syntax, &KEPT_ATTRIBUTES);
-            Part::Sifting(sieve, STORE_LIMIT)
+            IncomingDataSet::Sifting(sieve, STORE_LIMIT)
         } else {
-            Part::Octets(Listed::empty(alloc))
+            IncomingDataSet::Octets(Listed::empty(alloc))
         }
     }
 
     /// That with one more fragment. What passes the limit is discarded.
-    fn with_fragment(self, limit: usize, fragment: &[u8]) -> Result<Part, AllocError>
+    fn with_fragment(self, limit: usize, fragment: &[u8]) -> Result<IncomingDataSet, AllocError>
         ensures value { (syntax : Syntax) (message : Received) →
-            PartStandsFor syntax self message → limit ≡ data_limit message.command → IfOk result
-            (λ part. PartStandsFor syntax part (with_fragment message fragment.now)) }
+            IncomingRefines syntax self message → limit ≡ data_limit message.command → IfOk result
+            (λ part. IncomingRefines syntax part (with_fragment message fragment.now)) }
         ensures memory { (syntax : Syntax) (message : Received) →
-            PartStandsFor syntax self message → limit ≡ data_limit message.command →
+            IncomingRefines syntax self message → limit ≡ data_limit message.command →
             OnErr result ((message.over ≡ false)
             × (length (message.octets ++ fragment.now) ≤ data_limit message.command)) }
     {
         match self {
-            Part::Octets(octets) => {
+            IncomingDataSet::Octets(octets) => {
                 let mut octets = octets.into_inner();
                 if octets.len() + fragment.len() > limit {
-                    return Ok(Part::Over);
+                    return Ok(IncomingDataSet::ExceededLimit);
                 }
                 octets.extend_from_slice(fragment)?;
-                Ok(Part::Octets(Listed::from_inner(octets)))
+                Ok(IncomingDataSet::Octets(Listed::from_inner(octets)))
             }
-            Part::Sifting(mut sieve, room) => {
+            IncomingDataSet::Sifting(mut sieve, room) => {
                 if fragment.len() > room {
-                    return Ok(Part::Over);
+                    return Ok(IncomingDataSet::ExceededLimit);
                 }
                 sieve.feed(fragment)?;
-                Ok(Part::Sifting(sieve, room - fragment.len()))
+                Ok(IncomingDataSet::Sifting(sieve, room - fragment.len()))
             }
-            Part::Over => Ok(Part::Over),
+            IncomingDataSet::ExceededLimit => Ok(IncomingDataSet::ExceededLimit),
         }
     }
 
     /// Whether the data set passed its limit.
-    fn is_over(&self) -> bool
-        ensures { (syntax : Syntax) (message : Received) → PartStandsFor syntax self.now message →
+    fn has_exceeded_limit(&self) -> bool
+        ensures { (syntax : Syntax) (message : Received) → IncomingRefines syntax self.now message →
             result ≡ message.over }
     {
         match self {
-            Part::Octets(_) | Part::Sifting(..) => false,
-            Part::Over => true,
+            IncomingDataSet::Octets(_) | IncomingDataSet::Sifting(..) => false,
+            IncomingDataSet::ExceededLimit => true,
         }
     }
 
     /// What is held of the data set, when it is whole.
     fn into_body(self, alloc: Global) -> Body
-        ensures body { (syntax : Syntax) (message : Received) → PartStandsFor syntax self message →
-            BodyStandsFor syntax result message.octets }
+        ensures body { (syntax : Syntax) (message : Received) →
+            IncomingRefines syntax self message → BodyRefines syntax result message.octets }
         ensures sifted { (syntax : Syntax) (message : Received) →
-            PartStandsFor syntax self message →
+            IncomingRefines syntax self message →
             is_sifted result ≡ (is_stored message.command && not message.over) }
     {
         match self {
-            Part::Octets(octets) => Body::Octets(octets),
-            Part::Sifting(sieve, _) => Body::Sifted(sieve.finish()),
-            Part::Over => Body::Octets(Listed::empty(alloc)),
+            IncomingDataSet::Octets(octets) => Body::Octets(octets),
+            IncomingDataSet::Sifting(sieve, _) => Body::Sifted(sieve.finish()),
+            IncomingDataSet::ExceededLimit => Body::Octets(Listed::empty(alloc)),
         }
     }
 }
 
-impl Begun {
+impl PendingMessage {
     /// A message of whose data set nothing came yet.
-    fn new(alloc: Global, context: Accepted, command: Command) -> Begun
-        ensures begun { HasBegun result (begun_with context.id command) }
+    fn new(alloc: Global, context: Accepted, command: Command) -> PendingMessage
+        ensures begun { PendingRefines result (begun_with context.id command) }
         ensures context { result.context ≡ context }
     {
-        let data_set = Part::of(alloc, &command, context.syntax);
-        Begun {
+        let data_set = IncomingDataSet::of(alloc, &command, context.syntax);
+        PendingMessage {
             context,
             command,
             data_set,
@@ -191,21 +191,21 @@ impl Begun {
     }
 
     /// The message with one more fragment of its data set.
-    fn with_fragment(self, fragment: &[u8]) -> Result<Begun, AllocError>
-        ensures value { (message : Received) → HasBegun self message →
-            IfOk result (λ grown. HasBegun grown (with_fragment message fragment.now)) }
+    fn with_fragment(self, fragment: &[u8]) -> Result<PendingMessage, AllocError>
+        ensures value { (message : Received) → PendingRefines self message →
+            IfOk result (λ grown. PendingRefines grown (with_fragment message fragment.now)) }
         ensures context { IfOk result (λ grown. grown.context ≡ self.context) }
-        ensures memory { (message : Received) → HasBegun self message →
+        ensures memory { (message : Received) → PendingRefines self message →
             OnErr result ((message.over ≡ false)
             × (length (message.octets ++ fragment.now) ≤ data_limit message.command)) }
     {
-        let Begun {
+        let PendingMessage {
             context,
             command,
             data_set,
         } = self;
         let data_set = data_set.with_fragment(data_limit(&command), fragment)?;
-        Ok(Begun {
+        Ok(PendingMessage {
             context,
             command,
             data_set,
@@ -214,15 +214,15 @@ impl Begun {
 
     /// The message, when its data set is whole.
     fn into_message(self, alloc: Global) -> Message
-        ensures { (message : Received) → HasBegun self message →
-            StandsFor self.context.syntax result message }
+        ensures { (message : Received) → PendingRefines self message →
+            Refines self.context.syntax result message }
     {
-        let Begun {
+        let PendingMessage {
             context,
             command,
             data_set,
         } = self;
-        let over = data_set.is_over();
+        let over = data_set.has_exceeded_limit();
         let body = data_set.into_body(alloc);
         Message {
             context: context.id,
@@ -243,7 +243,7 @@ fn command_completed(
         MakesGathering accepted result (command_completed context.id (command_of octets.now)) }
     ensures unspent { IfOk result (λ x. fault_held x.1 ≡ None) }
 {
-    let begun = Begun::new(alloc, context, reading::command_of(alloc, octets)?);
+    let begun = PendingMessage::new(alloc, context, reading::command_of(alloc, octets)?);
     if begun.command.with_data {
         Ok((None, PartialMessage::DataPart(begun)))
     } else {
@@ -282,14 +282,14 @@ fn after_command(
 /// A PDV of the right context after a command set and the fragments of a data set so far.
 fn after_data(
     alloc: Global,
-    begun: Begun,
+    begun: PendingMessage,
     pdv: &Pdv,
 ) -> Result<(Option<Message>, PartialMessage), DimseFault>
     ensures made { (accepted : List Accepted) (message : Received) →
-        accepted_with begun.context.id accepted ≡ Some begun.context → HasBegun begun message →
-        MakesGathering accepted result (after_data message pdv.now) }
+        accepted_with begun.context.id accepted ≡ Some begun.context →
+        PendingRefines begun message → MakesGathering accepted result (after_data message pdv.now) }
     ensures unspent { IfOk result (λ x. fault_held x.1 ≡ None) }
-    ensures memory { (message : Received) → HasBegun begun message →
+    ensures memory { (message : Received) → PendingRefines begun message →
         result ≡ Err DimseFault.NoMemory → IsKeptData message pdv.now }
 {
     if pdv.command {

@@ -24,7 +24,7 @@ pub struct Command {
 
 /// A command whose identifiers are lent.
 #[derive(Clone, Copy)]
-pub struct LentCommand<'a> {
+pub struct CommandRef<'a> {
     pub code: u16,
     pub id: u16,
     pub sop_class: &'a [u8],
@@ -34,13 +34,13 @@ pub struct LentCommand<'a> {
 }
 
 impl Command {
-    ghost use Rattle.dq_dimse.specs.LentCommands.{command_of_lent};
+    ghost use Rattle.dq_dimse.specs.CommandRefs.{command_of_ref};
 
     /// It, without copies.
-    pub(crate) fn lent(&self) -> LentCommand<'_>
-        ensures { command_of_lent result ≡ self.now }
+    pub(crate) fn lent(&self) -> CommandRef<'_>
+        ensures { command_of_ref result ≡ self.now }
     {
-        LentCommand {
+        CommandRef {
             code: self.code,
             id: self.id,
             sop_class: self.sop_class.as_slice(),

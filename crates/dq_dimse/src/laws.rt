@@ -16,9 +16,9 @@ ghost use Rattle.dq_dimse.specs.Carrying.{Carries, IsDataOf, pdu_with};
 ghost use Rattle.dq_dimse.specs.Commands.{command_of};
 ghost use Rattle.dq_dimse.specs.CommandSets.{IsCommandSet, HasFields, SaysResponse};
 ghost use Rattle.dq_dimse.specs.declared.assembler.Accepted.{Accepted};
-ghost use Rattle.dq_dimse.specs.declared.assembler.Begun.{Begun};
+ghost use Rattle.dq_dimse.specs.declared.assembler.PendingMessage.{PendingMessage};
 ghost use Rattle.dq_dimse.specs.declared.assembler.PartialMessage.TheVariants as held;
-ghost use Rattle.dq_dimse.specs.Holding.{StandsFor, Holding, WasGivenPdvs, is_stored, plain_message};
+ghost use Rattle.dq_dimse.specs.Holding.{Refines, Holding, WasGivenPdvs, is_stored, plain_message};
 ghost use Rattle.dq_dimse.specs.Holding.{octets_gathered, gathered_limit, SiftsWithin};
 ghost use Rattle.dq_dimse.specs.Messages.{AreMessages, AreLeft, command_limit, store_limit};
 ghost use Rattle.dq_dimse.specs.Assembling.{Assembly, AssemblerAfter, messages, messages_from};
@@ -143,7 +143,7 @@ pub fn assemblers_go_on()
 /// A message that is no C-STORE is held with its octets, and so is one that passed its limit.
 pub fn plain_messages_are_held()
     ensures { (syntax : Syntax) (held : HeldMessage) (message : Message) →
-        StandsFor syntax held message →
+        Refines syntax held message →
         (is_stored message.command ≡ false) ⊎ (message.over ≡ true) →
         plain_message held ≡ message }
 {}
@@ -156,7 +156,7 @@ pub fn unfinished_messages_are_short()
         WasGivenPdvs accepted pdvs holding →
         length (octets_gathered holding.gathered) ≤ gathered_limit holding.gathered }
     ensures sifted { (accepted : List Accepted) (pdvs : List Pdv) (holding : Holding)
-        (begun : Begun) → WasGivenPdvs accepted pdvs holding →
+        (begun : PendingMessage) → WasGivenPdvs accepted pdvs holding →
         holding.gathered ≡ held.DataPart begun →
         SiftsWithin begun.context.syntax begun.data_set store_limit }
 {}

@@ -16,7 +16,7 @@ pub mod status;
 mod testing;
 
 pub use assembler::{Accepted, Assembler};
-pub use command::{Body, Command, LentCommand, Message};
+pub use command::{Body, Command, CommandRef, Message};
 pub use dq_vr::study_root::KEPT_ATTRIBUTES;
 pub use fault::DimseFault;
 pub use sending::{append_command, append_data_set};

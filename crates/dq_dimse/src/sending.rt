@@ -2,14 +2,14 @@
 ghost use Rattle.std.specs.Prelude.{◌≡◌, ◌+◌, ◌-◌, ◌<◌, ◌≤◌, ◌∷◌, ◌++◌, length, true, false, take, drop, vec_len};
 ghost use Rattle.std.specs.Prelude.{IfOk, OnOk};
 ghost use Rattle.std.specs.Int.{w16, w32, to_le_bytes};
-ghost use Rattle.dq_dimse.specs.LentCommands.{command_of_lent};
+ghost use Rattle.dq_dimse.specs.CommandRefs.{command_of_ref};
 ghost use Rattle.dq_dimse.specs.Sending.{zero_padded, command_element, short_command_element, instance_element};
 ghost use Rattle.dq_pdu.specs.Numbers.{pdv_header};
 ghost use Rattle.dq_dimse.specs.Sending.{command_elements, command_set, fragment_size};
 ghost use Rattle.dq_dimse.specs.Sending.{IsPduLimit, own_limit};
 ghost use Rattle.dq_dimse.specs.Sending.{cut_within, cut_into_pdus};
 
-use crate::command::LentCommand;
+use crate::command::CommandRef;
 use crate::numbers;
 use dq_pdu::{PDV_HEADER, append_p_data};
 use std::alloc::{AllocError, Global};
@@ -75,9 +75,9 @@ fn put_instance(out: &mut Vec<u8>, instance: &[u8]) -> Result<(), AllocError>
 }
 
 /// Writes the elements of a response after its group length.
-fn put_command_elements(out: &mut Vec<u8>, command: LentCommand<'_>) -> Result<(), AllocError>
+fn put_command_elements(out: &mut Vec<u8>, command: CommandRef<'_>) -> Result<(), AllocError>
     ensures { OnOk result
-        (out.new.items ≡ out.old.items ++ command_elements (command_of_lent command.entry)) }
+        (out.new.items ≡ out.old.items ++ command_elements (command_of_ref command.entry)) }
 {
     let data_set_type = if command.with_data {
         numbers::DATA_SET
@@ -103,8 +103,8 @@ fn put_group_length(set: &mut Vec<u8>)
 }
 
 /// The command set of a response. Its group length is put in place last.
-fn command_set(alloc: Global, command: LentCommand<'_>) -> Result<Vec<u8>, AllocError>
-    ensures { IfOk result (λ written. written.items ≡ command_set (command_of_lent command.entry)) }
+fn command_set(alloc: Global, command: CommandRef<'_>) -> Result<Vec<u8>, AllocError>
+    ensures { IfOk result (λ written. written.items ≡ command_set (command_of_ref command.entry)) }
 {
     let mut out = Vec::with_capacity(alloc, USUAL_LENGTH)?;
     put_element(&mut out, numbers::COMMAND_GROUP_LENGTH, &[0; 4])?;
@@ -171,12 +171,12 @@ pub fn append_command(
     alloc: Global,
     out: &mut Vec<u8>,
     context: u8,
-    command: LentCommand<'_>,
+    command: CommandRef<'_>,
     limit: u32,
 ) -> Result<(), AllocError>
     requires { IsPduLimit limit }
     ensures { OnOk result (out.new.items
-        ≡ out.old.items ++ cut_into_pdus context true limit (command_set (command_of_lent command.entry))) }
+        ≡ out.old.items ++ cut_into_pdus context true limit (command_set (command_of_ref command.entry))) }
 {
     let set = command_set(alloc, command)?;
     put_cut(out, context, true, limit, &set)

@@ -4,8 +4,8 @@ use Rattle.dq_vr.specs.Tags.{specific_character_set, scheduled_procedure_step_st
 use Rattle.dq_dataset.specs.declared.data_set.Value.TheVariants.{Octets}
 use Rattle.dq_dataset.specs.Tree.{ElementList, no_elements, element, sequence}
 use Rattle.dq_dataset.specs.Values.{element_at, element_octets, sole_at}
-use Rattle.dq_match.specs.declared.keys.Place.{Place}
-use Rattle.dq_match.specs.declared.keys.Place.TheVariants.{Outer}
+use Rattle.dq_match.specs.declared.keys.Nesting.{Nesting}
+use Rattle.dq_match.specs.declared.keys.Nesting.TheVariants.{Outer}
 use Rattle.dq_match.specs.Keys.{items_in, is_key}
 use Rattle.dq_match.specs.Values.{octets_meet}
 use Rattle.dq_match.specs.Matching.{period, start_day, start_time, is_matched_elsewhere, with_period, each_met, items_meet, fits}
@@ -16,7 +16,7 @@ Agree no_elements a b = Unit {0}
 Agree (element tag vr octets rest) a b = (element_at tag a ≡ element_at tag b) × Agree rest a b
 Agree (sequence tag vr items rest) a b = (element_at tag a ≡ element_at tag b) × Agree rest a b
 
-each_alike : (keys : ElementList) (place : Place) (a b : ElementList) (joined : Bool) → Agree keys a b
+each_alike : (keys : ElementList) (place : Nesting) (a b : ElementList) (joined : Bool) → Agree keys a b
     → each_met keys place a joined ≡ each_met keys place b joined
 each_alike no_elements place a b joined h = refl
 each_alike (element t v o rest) place a b joined h =
@@ -37,7 +37,7 @@ pub fits_alike : (keys a b : ElementList) → Agree keys a b → element_at sche
 unfolding start_day start_time sole_at
 fits_alike keys a b h date time = grind (arith, with_alike, each_alike, period_alike)
 
-keys_alike : (keys : ElementList) (place : Place) (a b : ElementList) → Agree keys a b → shown_keys keys place a ≡ shown_keys keys place b
+keys_alike : (keys : ElementList) (place : Nesting) (a b : ElementList) → Agree keys a b → shown_keys keys place a ≡ shown_keys keys place b
 keys_alike no_elements place a b h = refl
 keys_alike (element t v o rest) place a b h =
     λ i. cond (is_key place t) (put (or_empty t v (Octets o) (h.0 i)) (keys_alike rest place a b h.1 i)) (keys_alike rest place a b h.1 i)

@@ -11,7 +11,7 @@ use Rattle.dq_dataset.specs.Tree.{ElementList, no_elements, element, sequence}
 use Rattle.dq_dataset.specs.View.{elements_of, has_tag, list_of}
 use Rattle.dq_dataset.specs.Editing.{merged_data_set}
 use Rattle.dq_dataset.specs.Values.{element_at}
-use Rattle.dq_match.specs.declared.keys.Place.TheVariants.{Outer}
+use Rattle.dq_match.specs.declared.keys.Nesting.TheVariants.{Outer}
 use Rattle.dq_match.specs.AsLent.{is_met_at_once}
 use Rattle.dq_match.specs.Fitting.{EachIsMet}
 use Rattle.dq_match.specs.Keys.{is_tag, other_than_keys}

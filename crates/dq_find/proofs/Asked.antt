@@ -16,7 +16,7 @@ use Rattle.dq_dataset.specs.View.{elements_of}
 use Rattle.dq_dataset.specs.Reading.{reading}
 use Rattle.dq_dataset.specs.Values.{sole_at}
 use Rattle.dq_dataset.proofs.KnownVrs.{HasKnownVr, read_has_known_vrs}
-use Rattle.dq_match.specs.declared.keys.Place.TheVariants.{Outer}
+use Rattle.dq_match.specs.declared.keys.Nesting.TheVariants.{Outer}
 use Rattle.dq_match.specs.Keys.{is_tag}
 use Rattle.dq_match.specs.Fitting.{EachIsMet}
 use Rattle.dq_match.specs.Matching.{fits}

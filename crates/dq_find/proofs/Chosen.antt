@@ -12,7 +12,7 @@ use Rattle.dq_dataset.specs.Tree.{ElementList}
 use Rattle.dq_dataset.specs.View.{elements_of}
 use Rattle.dq_dataset.specs.Values.{element_at, sole_at}
 use Rattle.dq_dataset.proofs.KnownVrs.{HasKnownVr}
-use Rattle.dq_match.specs.declared.keys.Place.TheVariants.{Outer}
+use Rattle.dq_match.specs.declared.keys.Nesting.TheVariants.{Outer}
 use Rattle.dq_match.specs.Fitting.{EachIsMet}
 use Rattle.dq_match.specs.Several.{is_plain}
 use Rattle.dq_match.specs.Values.{matching_of}

@@ -4,7 +4,7 @@ ghost use Rattle.std.specs.Prelude.{◌≡◌, ◌≤◌, ◌∷◌, ◌++◌, l
 ghost use Rattle.dq_tables.specs.Rows.{record_of};
 ghost use Rattle.dq_find.specs.Computed.{put_in_order, all_in_order, modalities_in, backslash_joined, images_below, study_values, series_values, computed_keys};
 ghost use Rattle.dq_find.specs.Modalities.{is_modality, modality_limit, modalities_of};
-ghost use Rattle.dq_archive.specs.Pasts.{Looks};
+ghost use Rattle.dq_archive.specs.Pasts.{QueriesOnly};
 ghost use Rattle.dq_find.specs.declared.level.Level.TheVariants.{Study, Series};
 ghost use Rattle.dq_dataset.specs.Values.{element_at, element_octets};
 
@@ -159,7 +159,7 @@ fn series_values(alloc: Global, images: u64) -> Result<DataSet, AllocError>
 
 /// How many images some series have.
 fn images_below<T: Tables>(archive: &mut Past<'_, T>, series: &[Row]) -> Result<u128, TableFault>
-    ensures { Looks T.state archive.old archive.new
+    ensures { QueriesOnly T.state archive.old archive.new
         (λ records. images_below records (map record_of series.now)) result }
 {
     let mut number = 0;
@@ -175,7 +175,7 @@ pub(crate) fn study_computed<T: Tables>(
     archive: &mut Past<'_, T>,
     key: &[u8],
 ) -> Result<DataSet, TableFault>
-    ensures { Looks T.state archive.old archive.new
+    ensures { QueriesOnly T.state archive.old archive.new
         (λ records. computed_keys records Study key.now) result }
 {
     let series = archive.rows_above(Kind::Series, key)?;
@@ -190,7 +190,7 @@ pub(crate) fn series_computed<T: Tables>(
     archive: &mut Past<'_, T>,
     key: &[u8],
 ) -> Result<DataSet, TableFault>
-    ensures { Looks T.state archive.old archive.new
+    ensures { QueriesOnly T.state archive.old archive.new
         (λ records. computed_keys records Series key.now) result }
 {
     let images = archive.count_above(Kind::Image, key)?;

@@ -10,7 +10,7 @@ ghost use Rattle.dq_match.specs.Identifiers.{HasKnownTags};
 ghost use Rattle.dq_tables.specs.Keeping.{Reads};
 ghost use Rattle.dq_tables.specs.Rows.{Record, of, record_of, row_of};
 ghost use Rattle.dq_tables.specs.Serving.{Serves};
-ghost use Rattle.dq_archive.specs.Pasts.{Looks};
+ghost use Rattle.dq_archive.specs.Pasts.{QueriesOnly};
 ghost use Rattle.dq_find.specs.declared.level.Level.TheVariants.{Study};
 ghost use Rattle.dq_find.specs.Choosing.{is_asked};
 ghost use Rattle.dq_find.specs.Candidates.{looks_up, query_candidates, is_under, named_record, named_rows, looked_up};
@@ -32,7 +32,7 @@ use dq_dimse::Message;
 use dq_dimse::status::SUCCESS;
 use dq_list::Listed;
 use dq_match::laws::{keys_are_met_alone_and_as_a_period, universal_keys_are_met};
-use dq_match::{Found, Part, PreparedKeys, asks_nothing, in_order, shown};
+use dq_match::{Found, PageCollector, PreparedKeys, asks_nothing, in_order, shown};
 use dq_tables::laws::{day_numbers_are_in_order, honest_rows_are_sound};
 use dq_tables::{Kind, Row, TableFault, Tables, uid_at};
 use dq_value::{stripped, values};
@@ -109,7 +109,7 @@ impl Search<'_> {
     /// The records of the level under the unique keys above it. Of studies, only those that can fit
     /// what is asked of their key, their patient and their day.
     fn asked_rows<T: Tables>(&self, archive: &mut Past<'_, T>) -> Result<Listed<Row>, TableFault>
-        ensures { Looks T.state archive.old archive.new (λ records.
+        ensures { QueriesOnly T.state archive.old archive.new (λ records.
             map (row_of archive.old.institution.now.name)
             (filter (is_asked self.now.query.now.level self.now.query.now.keys)
             (asked_records records self.now.query.now))) result }
@@ -158,7 +158,7 @@ impl Search<'_> {
         archive: &mut Past<'_, T>,
         uid: &[u8],
     ) -> Result<Option<Row>, TableFault>
-        ensures { Looks T.state archive.old archive.new (λ records.
+        ensures { QueriesOnly T.state archive.old archive.new (λ records.
             option_map (row_of archive.old.institution.now.name)
             (named_record records self.now.query.now uid.now)) result }
     {
@@ -172,7 +172,7 @@ impl Search<'_> {
         archive: &mut Past<'_, T>,
         mut uids: BTreeSet<Vec<u8>>,
     ) -> Result<Listed<Row>, TableFault>
-        ensures { Looks T.state archive.old archive.new (λ records.
+        ensures { QueriesOnly T.state archive.old archive.new (λ records.
             named_rows archive.old.institution.now.name records
             self.now.query.now (octets_of_vectors uids.keys)) result }
     {
@@ -192,7 +192,7 @@ impl Search<'_> {
         archive: &mut Past<'_, T>,
         keys: &[Listed<u8>],
     ) -> Result<Listed<Row>, TableFault>
-        ensures { Looks T.state archive.old archive.new (λ records.
+        ensures { QueriesOnly T.state archive.old archive.new (λ records.
             named_rows archive.old.institution.now.name records
             self.now.query.now keys.now) result }
     {
@@ -212,7 +212,7 @@ impl Search<'_> {
         &self,
         archive: &mut Past<'_, T>,
     ) -> Result<Listed<Row>, TableFault>
-        ensures { Looks T.state archive.old archive.new (λ records.
+        ensures { QueriesOnly T.state archive.old archive.new (λ records.
             map (row_of archive.old.institution.now.name)
             (query_candidates records self.now.query.now)) result }
     {
@@ -231,7 +231,7 @@ impl Search<'_> {
         archive: &mut Past<'_, T>,
         key: &[u8],
     ) -> Result<DataSet, TableFault>
-        ensures { Looks T.state archive.old archive.new
+        ensures { QueriesOnly T.state archive.old archive.new
             (λ records. computed_keys records self.now.query.now.level key.now) result }
     {
         match self.query.level {
@@ -283,7 +283,7 @@ impl Search<'_> {
         requires known { HasKnownTags self.now.query.now.keys }
         requires prepared { self.now.prepared.now ≡ self.now.query.now.keys }
         requires about { about.now ≡ about_answers self.now.called.now self.now.query.now.level }
-        ensures { Looks T.state archive.old archive.new (λ records.
+        ensures { QueriesOnly T.state archive.old archive.new (λ records.
             record_answer records self.now.called.now self.now.query.now (record_of row.now)) result }
     {
         keys_are_met_alone_and_as_a_period();
@@ -313,12 +313,12 @@ impl Search<'_> {
     ) -> Result<Listed<DataSet>, TableFault>
         requires known { HasKnownTags self.now.query.now.keys }
         requires prepared { self.now.prepared.now ≡ self.now.query.now.keys }
-        ensures { Looks T.state archive.old archive.new (λ records. part_of from most (filter_map
+        ensures { QueriesOnly T.state archive.old archive.new (λ records. part_of from most (filter_map
             (λ (row : TheRow). record_answer records self.now.called.now self.now.query.now
             (record_of row)) rows.now)) result }
     {
         let about = about_answers(archive.alloc, self.called, self.query.level)?;
-        let mut part = Part::new(archive.alloc, from, most);
+        let mut part = PageCollector::new(archive.alloc, from, most);
         for row in rows {
             if part.is_full() {
                 return Ok(part.into_answers());
@@ -339,7 +339,7 @@ impl Search<'_> {
     ) -> Result<Listed<DataSet>, TableFault>
         requires known { HasKnownTags self.now.query.now.keys }
         requires prepared { self.now.prepared.now ≡ self.now.query.now.keys }
-        ensures { Looks T.state archive.old archive.new (λ records. part_of from most
+        ensures { QueriesOnly T.state archive.old archive.new (λ records. part_of from most
             (answers_of_records records self.now.called.now self.now.query.now)) result }
     {
         universal_keys_are_met();
@@ -443,7 +443,7 @@ fn answers_to<T: Tables>(
     most: Option<usize>,
 ) -> Result<Found, TableFault>
     requires { IfOk asked (λ query. HasKnownTags query.keys) }
-    ensures { Looks T.state archive.old archive.new
+    ensures { QueriesOnly T.state archive.old archive.new
         (λ records. found_of from most (found_by records called.now asked)) result }
 {
     let query = match asked {

@@ -4,7 +4,7 @@ ghost use Rattle.dq_match.specs.Identifiers.{HasKnownTags};
 ghost use Rattle.dq_dataset.specs.Tree.{ElementList};
 ghost use Rattle.dq_tables.specs.declared.row.Row.{Row as TheRow};
 ghost use Rattle.dq_tables.specs.Rows.{Record, row_of};
-ghost use Rattle.dq_archive.specs.Pasts.{Looks};
+ghost use Rattle.dq_archive.specs.Pasts.{QueriesOnly};
 ghost use Rattle.dq_find.specs.Candidates.{named_rows, query_candidates};
 ghost use Rattle.dq_find.specs.OpenSearches.{Begins, TakesPage, next_candidates, left_after, left_of, last_key};
 ghost use Rattle.dq_find.specs.Queries.{record_answer};
@@ -100,7 +100,7 @@ impl Left {
         search: &Search<'_>,
         most: usize,
     ) -> Result<Listed<Row>, TableFault>
-        ensures { Looks T.state archive.old archive.new (λ records.
+        ensures { QueriesOnly T.state archive.old archive.new (λ records.
             map (row_of archive.old.institution.now.name)
             (next_candidates most records search.now.query.now self.now)) result }
     {

@@ -10,8 +10,8 @@ use Rattle.dq_dataset.specs.declared.data_set.Element.{Element}
 use Rattle.dq_dataset.specs.Tree.{ElementList}
 use Rattle.dq_dataset.specs.View.{elements_of}
 use Rattle.dq_dataset.specs.Values.{element_at}
-use Rattle.dq_match.specs.declared.keys.Place.{Place}
-use Rattle.dq_match.specs.declared.keys.Place.TheVariants.{Outer}
+use Rattle.dq_match.specs.declared.keys.Nesting.{Nesting}
+use Rattle.dq_match.specs.declared.keys.Nesting.TheVariants.{Outer}
 use Rattle.dq_match.specs.Keys.{is_key, other_than_keys}
 use Rattle.dq_match.specs.AsLent.{is_left, is_met_at_once}
 use Rattle.dq_match.specs.Fitting.{EachIsMet}
@@ -26,7 +26,7 @@ each_of p (y ∷ ys) h x (inl is) = ap p (sym is) ∙ (and_parts (p y) (list_all
 each_of p (y ∷ ys) h x (inr a) = each_of p ys (and_parts (p y) (list_all p ys) h).1 x a
 each_of p [] h x a = absurd a
 
-pub not_passed : (joined : Bool) (place : Place) (tag : Tag) → is_key place tag ≡ true → is_start tag ≡ false → is_matched_elsewhere place joined tag ≡ false
+pub not_passed : (joined : Bool) (place : Nesting) (tag : Tag) → is_key place tag ≡ true → is_start tag ≡ false → is_matched_elsewhere place joined tag ≡ false
 not_passed true place tag is none = rw (is, none) refl
 not_passed false place tag is none = rw (is) refl
 

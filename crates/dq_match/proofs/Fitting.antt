@@ -14,21 +14,21 @@ use Rattle.dq_dataset.specs.Values.{element_at}
 use Rattle.dq_dataset.proofs.Views.{as_elements-elements_of}
 use Rattle.dq_dataset.specs.declared.data_set.Element.{Element}
 use Rattle.dq_dataset.specs.declared.data_set.Value.TheVariants.{Octets, Items}
-use Rattle.dq_match.specs.declared.keys.Place.{Place}
-use Rattle.dq_match.specs.declared.keys.Place.TheVariants.{Inner}
+use Rattle.dq_match.specs.declared.keys.Nesting.{Nesting}
+use Rattle.dq_match.specs.declared.keys.Nesting.TheVariants.{Inner}
 use Rattle.dq_match.specs.Matching.{is_matched_elsewhere, with_period, each_met, all_met, meets}
 use Rattle.dq_match.specs.Fitting.{EachIsMet, PeriodIsMet, SomeItemFits}
 
 -- ---- one key after the other
 
-abbrev AllAreMet : Place → ElementList → Bool → List Element → Type 0
+abbrev AllAreMet : Nesting → ElementList → Bool → List Element → Type 0
 AllAreMet place held joined keys = (key : Element) → IsAmong key keys → is_matched_elsewhere place joined key.tag ≡ false → meets key (element_at key.tag held) ≡ true
 
 either_way : (passed met : Bool) → (passed ≡ false → met ≡ true) → (passed || met) ≡ true
 either_way true met h = refl
 either_way false met h = h refl
 
-module _ (place : Place) (held : ElementList) (joined : Bool) where
+module _ (place : Nesting) (held : ElementList) (joined : Bool) where
   first_met : (key : Element) (rest : List Element)
       → (is_matched_elsewhere place joined key.tag || meets key (element_at key.tag held)) ≡ true
       → AllAreMet place held joined rest → AllAreMet place held joined (key ∷ rest)
@@ -75,7 +75,7 @@ with_to : (p : Option Bool) (met : Bool → Bool) → met (is_some p) ≡ true �
 with_to None met h in_period = h
 with_to (Some inside) met h in_period = and_from inside (met true) in_period h
 
-pub fits_each : (place : Place) (keys held : ElementList) → (all_met place keys held ≡ true) ↔ (EachIsMet place keys held × PeriodIsMet keys held)
+pub fits_each : (place : Nesting) (keys held : ElementList) → (all_met place keys held ≡ true) ↔ (EachIsMet place keys held × PeriodIsMet keys held)
 fits_each place keys held = grind (arith, with_from, with_to, each_is)
 
 -- ---- items

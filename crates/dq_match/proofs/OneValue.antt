@@ -26,7 +26,7 @@ use Rattle.dq_dataset.specs.Tree.{ElementList}
 use Rattle.dq_dataset.specs.View.{elements_of, has_tag}
 use Rattle.dq_dataset.specs.Values.{element_at, element_octets, values_of, values_in, sole_at}
 use Rattle.dq_dataset.proofs.KnownVrs.{HasKnownVr}
-use Rattle.dq_match.specs.declared.keys.Place.{Place}
+use Rattle.dq_match.specs.declared.keys.Nesting.{Nesting}
 use Rattle.dq_match.specs.Fitting.{EachIsMet}
 use Rattle.dq_match.specs.Keys.{is_tag}
 use Rattle.dq_match.specs.Matching.{period, is_matched_elsewhere, meets}
@@ -115,7 +115,7 @@ pub meets_octets : (key : Element) (held : Option Element) (octets : List ℕ) �
 meets_octets key held octets is = rw is refl
 
 -- the record's element stands in its data set `d`, beside what else is met
-pub one_met : (vr : Vr) (tag : Tag) → known_vr tag ≡ Some vr → (place : Place) (keys d held : ElementList)
+pub one_met : (vr : Vr) (tag : Tag) → known_vr tag ≡ Some vr → (place : Nesting) (keys d held : ElementList)
     → AllByRecursion HasKnownVr (elements_of keys) → AllByRecursion HasKnownVr (elements_of d) → element_at tag held ≡ element_at tag d
     → EachIsMet place keys held → is_matched_elsewhere place (is_some (period keys held)) tag ≡ false
     → (asked said : List ℕ) → sole_at tag keys ≡ Some asked → sole_at tag d ≡ Some said → is_met_by vr asked said ≡ true

@@ -16,8 +16,8 @@ use Rattle.dq_dataset.specs.View.{as_elements, elements_of, items_of, list_of, w
 use Rattle.dq_dataset.specs.Facts.{IsElementTag, IsPlain, IsSequence, AreElements, AreItems, IsDataSet}
 use Rattle.dq_dataset.specs.Values.{element_at, element_octets}
 use Rattle.dq_dataset.proofs.Views.{as_elements-elements_of, elements_of-with_value, items_of-list_of}
-use Rattle.dq_match.specs.declared.keys.Place.{Place}
-use Rattle.dq_match.specs.declared.keys.Place.TheVariants.{Outer, Inner}
+use Rattle.dq_match.specs.declared.keys.Nesting.{Nesting}
+use Rattle.dq_match.specs.declared.keys.Nesting.TheVariants.{Outer, Inner}
 use Rattle.dq_list.specs.Lengths.{is_empty}
 use Rattle.dq_value.specs.Parts.{element_values}
 use Rattle.dq_match.specs.Keys.{is_tag, is_key}
@@ -95,7 +95,7 @@ sequence_or_empty levels tag vr cut None nested deep keeps found = (refl, (neste
 sequence_or_empty levels tag vr cut (Some e) nested deep keeps found = (found.0, cut_found levels cut e.tag e.vr e.value keeps found.1)
 
 mutual
-  shown_facts : (keys : ElementList) (levels : ℕ) (last : Option Tag) (place : Place) (held : ElementList) → AreElements levels last keys
+  shown_facts : (keys : ElementList) (levels : ℕ) (last : Option Tag) (place : Nesting) (held : ElementList) → AreElements levels last keys
       → AreElements levels None held → AreElements levels last (shown_keys keys place held)
   shown_facts no_elements levels last place held h k = tt
   shown_facts (element t v o rest) levels last place held h k =
@@ -123,7 +123,7 @@ mutual
       (λ some. cut_facts levels (λ d. shown_keys keys Inner d) (λ d. all_met Inner keys d) held
       (λ d. shown_facts keys levels None Inner d h.0) k)
 
-pub shown_is_data_set : (keys : ElementList) (place : Place) (held : ElementList) → IsDataSet keys → IsDataSet held → IsDataSet (shown_keys keys place held)
+pub shown_is_data_set : (keys : ElementList) (place : Nesting) (held : ElementList) → IsDataSet keys → IsDataSet held → IsDataSet (shown_keys keys place held)
 shown_is_data_set keys place held h k = shown_facts keys 16 None place held h k
 
 -- ---- after the character set
@@ -236,7 +236,7 @@ put_by : (b : Bool) (e : Element) (rest : ElementList) → elements_of (cond b (
 put_by true e rest = elements_of-with_value e.tag e.vr e.value rest
 put_by false e rest = refl
 
-shown_by : (t : Tag) (v : Vr) (x : Value) (place : Place) (rest held : ElementList)
+shown_by : (t : Tag) (v : Vr) (x : Value) (place : Nesting) (rest held : ElementList)
     → elements_of (shown_keys (with_value (record { tag = t; vr = v; value = x }) x rest) place held)
     ≡ cond (is_key place t) (shown_element (record { tag = t; vr = v; value = x }) (element_at t held) ∷ elements_of (shown_keys rest place held))
     (elements_of (shown_keys rest place held))
@@ -251,7 +251,7 @@ map_by true f e es shown h = ap (λ (xs : List Element). f e ∷ xs) h
 map_by false f e es shown h = h
 
 -- each key shows the record's element
-pub each_shown : (keys : List Element) (place : Place) (held : ElementList) → elements_of (shown_keys (as_elements keys) place held)
+pub each_shown : (keys : List Element) (place : Nesting) (held : ElementList) → elements_of (shown_keys (as_elements keys) place held)
     ≡ map (λ key. shown_element key (element_at key.tag held)) (filter (λ key. is_key place key.tag) keys)
 each_shown [] place held = refl
 each_shown (key ∷ keys) place held =

@@ -10,8 +10,8 @@ use Rattle.dq_dataset.specs.Tree.{ElementList, no_elements, element, sequence}
 use Rattle.dq_dataset.specs.View.{has_tag, with_value}
 use Rattle.dq_dataset.specs.Values.{element_octets}
 use Rattle.dq_vr.specs.Tags.{specific_character_set}
-use Rattle.dq_match.specs.declared.keys.Place.{Place}
-use Rattle.dq_match.specs.declared.keys.Place.TheVariants.{Outer}
+use Rattle.dq_match.specs.declared.keys.Nesting.{Nesting}
+use Rattle.dq_match.specs.declared.keys.Nesting.TheVariants.{Outer}
 use Rattle.dq_match.specs.Keys.{is_tag, is_key}
 use Rattle.dq_match.specs.Responses.{put, or_empty, with_cut, shown_keys, unless_empty, character_set, put_first, shown_data_set}
 use Rattle.dq_match.specs.ShownTags.{tags_of, set_tags}
@@ -44,7 +44,7 @@ tags_by : (b : Bool) (tag : Tag) (e : Element) (rest : ElementList) (tags : List
 tags_by true tag e rest tags same h = put_tag e.tag e.vr e.value rest ∙ (λ i. same i ∷ h i)
 tags_by false tag e rest tags same h = h
 
-pub keys_shown : (keys : ElementList) (place : Place) (held : ElementList)
+pub keys_shown : (keys : ElementList) (place : Nesting) (held : ElementList)
     → tags_of (shown_keys keys place held) ≡ filter (is_key place) (tags_of keys)
 keys_shown no_elements place held = refl
 keys_shown (element t v o rest) place held = grind (arith, tags_by, empty_tag, found_tag, keys_shown rest place held)

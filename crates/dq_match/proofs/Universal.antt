@@ -20,9 +20,9 @@ use Rattle.dq_dataset.specs.declared.data_set.Value.TheVariants.{Octets, Items}
 use Rattle.dq_dataset.specs.Tree.{ElementList, no_elements, element, sequence, ItemList, no_items, item}
 use Rattle.dq_dataset.specs.View.{elements_of, has_tag, list_of}
 use Rattle.dq_dataset.specs.Values.{element_at, value_octets, element_octets, values_of, values_in, sole_at}
-use Rattle.dq_match.specs.declared.keys.Place.{Place}
+use Rattle.dq_match.specs.declared.keys.Nesting.{Nesting}
 use Rattle.dq_vr.specs.Tags.{scheduled_procedure_step_start_date}
-use Rattle.dq_match.specs.declared.keys.Place.TheVariants.{Outer, Inner}
+use Rattle.dq_match.specs.declared.keys.Nesting.TheVariants.{Outer, Inner}
 use Rattle.dq_match.specs.Wildcards.{any_run}
 use Rattle.dq_match.specs.Ranges.{Bounds, range_bounds}
 use Rattle.dq_match.specs.Values.{is_asterisk, is_universal, octets_meet}
@@ -107,7 +107,7 @@ no_period keys held h = rw (no_days keys h)
 -- ---- all keys
 
 mutual
-  each_universal : (keys : ElementList) (place : Place) (held : ElementList) → all_universal keys ≡ true → each_met keys place held false ≡ true
+  each_universal : (keys : ElementList) (place : Nesting) (held : ElementList) → all_universal keys ≡ true → each_met keys place held false ≡ true
   each_universal no_elements place held h = refl
   each_universal (element t v o rest) place held h =
       let parts = and_parts (is_universal v o) (all_universal rest) h in
@@ -126,7 +126,7 @@ mutual
       or_left (with_period (period keys d) (each_met keys Inner d)) (list_any (λ d. with_period (period keys d) (each_met keys Inner d)) ds)
       (ap (λ (p : Option Bool). with_period p (each_met keys Inner d)) (no_period keys d parts.0) ∙ each_universal keys Inner d parts.0)
 
-pub universal_met : (place : Place) (keys held : ElementList) → all_universal keys ≡ true → all_met place keys held ≡ true
+pub universal_met : (place : Nesting) (keys held : ElementList) → all_universal keys ≡ true → all_met place keys held ≡ true
 universal_met place keys held h =
     ap (λ (p : Option Bool). with_period p (each_met keys place held)) (no_period keys held h) ∙ each_universal keys place held h
 

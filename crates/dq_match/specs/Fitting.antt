@@ -5,13 +5,13 @@ use Rattle.dq_dataset.specs.Tree.{ElementList}
 use Rattle.dq_dataset.specs.View.{elements_of}
 use Rattle.dq_dataset.specs.Values.{element_at}
 use Rattle.dq_dataset.specs.declared.data_set.Element.{Element}
-use Rattle.dq_match.specs.declared.keys.Place.{Place}
-use Rattle.dq_match.specs.declared.keys.Place.TheVariants.{Inner}
+use Rattle.dq_match.specs.declared.keys.Nesting.{Nesting}
+use Rattle.dq_match.specs.declared.keys.Nesting.TheVariants.{Inner}
 use Rattle.dq_match.specs.Matching.{period, is_matched_elsewhere, all_met, meets}
 
 -- Each key that stands alone is met by the element with its tag: each but the date and the time of
 -- a period.
-abbrev pub EachIsMet : Place → ElementList → ElementList → Type 0
+abbrev pub EachIsMet : Nesting → ElementList → ElementList → Type 0
 EachIsMet place keys held =
     (key : Element) → IsAmong key (elements_of keys)
     → is_matched_elsewhere place (is_some (period keys held)) key.tag ≡ false

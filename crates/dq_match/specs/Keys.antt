@@ -7,8 +7,8 @@ use Rattle.dq_dataset.specs.Tree.{ElementList}
 use Rattle.dq_dataset.specs.declared.data_set.Element.{Element}
 use Rattle.dq_dataset.specs.declared.data_set.Value.{Value}
 use Rattle.dq_dataset.specs.declared.data_set.Value.TheVariants.{Octets, Items}
-use Rattle.dq_match.specs.declared.keys.Place.{Place}
-use Rattle.dq_match.specs.declared.keys.Place.TheVariants.{Outer, Inner}
+use Rattle.dq_match.specs.declared.keys.Nesting.{Nesting}
+use Rattle.dq_match.specs.declared.keys.Nesting.TheVariants.{Outer, Inner}
 
 -- an element that is absent, and one that is no sequence, have no items
 abbrev pub value_items : Value → List ElementList
@@ -29,6 +29,6 @@ other_than_keys =
     specific_character_set ∷ query_retrieve_level ∷ retrieve_ae_title ∷ instance_availability ∷ []
 
 -- inside items every element is a key
-abbrev pub is_key : Place → Tag → Bool
+abbrev pub is_key : Nesting → Tag → Bool
 is_key Outer tag = not (list_any (λ wanted. is_tag wanted tag) other_than_keys)
 is_key Inner tag = true

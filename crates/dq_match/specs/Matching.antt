@@ -11,8 +11,8 @@ use Rattle.dq_dataset.specs.Tree.{ElementList, no_elements, element, sequence, I
 use Rattle.dq_dataset.specs.View.{with_value}
 use Rattle.dq_dataset.specs.Values.{element_at, element_octets, sole_at}
 use Rattle.dq_dataset.specs.declared.data_set.Element.{Element}
-use Rattle.dq_match.specs.declared.keys.Place.{Place}
-use Rattle.dq_match.specs.declared.keys.Place.TheVariants.{Outer, Inner}
+use Rattle.dq_match.specs.declared.keys.Nesting.{Nesting}
+use Rattle.dq_match.specs.declared.keys.Nesting.TheVariants.{Outer, Inner}
 use Rattle.dq_match.specs.Values.{octets_meet}
 use Rattle.dq_match.specs.Ranges.{Bounds, range_bounds, is_in_range}
 use Rattle.dq_match.specs.Keys.{items_in, is_tag, is_key}
@@ -56,7 +56,7 @@ is_start tag =
     is_tag scheduled_procedure_step_start_date tag || is_tag scheduled_procedure_step_start_time tag
 
 -- the elements that are not met each for itself: what is no key, and the date and time of a period
-abbrev pub is_matched_elsewhere : Place → Bool → Tag → Bool
+abbrev pub is_matched_elsewhere : Nesting → Bool → Tag → Bool
 is_matched_elsewhere place joined tag = not (is_key place tag) || (joined && is_start tag)
 
 -- a period is met too, where there is one
@@ -68,7 +68,7 @@ with_period (Some in_period) met = in_period && met true
 -- meets all keys of its item; a sequence of the record without items is unknown, and meets every
 -- key (C.2.2.2.6).
 abbrev mutual
-  pub each_met : ElementList → Place → ElementList → Bool → Bool
+  pub each_met : ElementList → Nesting → ElementList → Bool → Bool
   each_met no_elements place held joined = true
   each_met (element tag vr octets rest) place held joined =
       (is_matched_elsewhere place joined tag || octets_meet vr octets (element_octets (element_at tag held)))
@@ -83,7 +83,7 @@ abbrev mutual
       is_empty held || list_any (λ d. with_period (period keys d) (each_met keys Inner d)) held
 
 -- a record, or an item of one, meets all keys
-abbrev pub all_met : Place → ElementList → ElementList → Bool
+abbrev pub all_met : Nesting → ElementList → ElementList → Bool
 all_met place keys held = with_period (period keys held) (each_met keys place held)
 
 abbrev pub fits : ElementList → ElementList → Bool

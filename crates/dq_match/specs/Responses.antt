@@ -11,8 +11,8 @@ use Rattle.dq_dataset.specs.Values.{element_at, element_octets}
 use Rattle.dq_dataset.specs.declared.data_set.Element.{Element}
 use Rattle.dq_dataset.specs.declared.data_set.Value.{Value}
 use Rattle.dq_dataset.specs.declared.data_set.Value.TheVariants.{Octets, Items}
-use Rattle.dq_match.specs.declared.keys.Place.{Place}
-use Rattle.dq_match.specs.declared.keys.Place.TheVariants.{Outer, Inner}
+use Rattle.dq_match.specs.declared.keys.Nesting.{Nesting}
+use Rattle.dq_match.specs.declared.keys.Nesting.TheVariants.{Outer, Inner}
 use Rattle.dq_match.specs.Keys.{is_key}
 use Rattle.dq_match.specs.Matching.{all_met}
 
@@ -45,7 +45,7 @@ with_cut cut e = record { tag = e.tag; vr = e.vr; value = cut_value cut e.value 
 -- For each key the record's element. A sequence key with keys in its item shows the record's items
 -- that meet them all, each cut to these keys; else it shows the record's items whole.
 abbrev mutual
-  pub shown_keys : ElementList → Place → ElementList → ElementList
+  pub shown_keys : ElementList → Nesting → ElementList → ElementList
   shown_keys no_elements place held = no_elements
   shown_keys (element tag vr octets rest) place held =
       if is_key place tag

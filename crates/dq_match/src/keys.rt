@@ -9,9 +9,9 @@ ghost use Rattle.dq_dataset.specs.Values.{element_octets};
 use dq_dataset::{DataSet, Element, Value};
 use dq_vr::{Tag, tags};
 
-/// The place of an element: outside items, or inside one.
+/// Whether an element is outside items, or inside one.
 #[derive(Clone, Copy, Debug, PartialEq, Eq)]
-pub enum Place {
+pub enum Nesting {
     Outer,
     Inner,
 }
@@ -25,13 +25,13 @@ pub(crate) static OTHER_THAN_KEYS: [Tag; 4] = [
     tags::INSTANCE_AVAILABILITY,
 ];
 
-impl Place {
+impl Nesting {
     pub(crate) fn is_key(self, tag: Tag) -> bool
         ensures { result ≡ is_key self tag }
     {
         match self {
-            Place::Outer => !is_other_than_key(tag),
-            Place::Inner => true,
+            Nesting::Outer => !is_other_than_key(tag),
+            Nesting::Inner => true,
         }
     }
 }

@@ -5,8 +5,8 @@ ghost use Rattle.dq_dataset.specs.Tree.{ElementList, ItemList, item};
 ghost use Rattle.dq_dataset.specs.View.{elements_of};
 ghost use Rattle.dq_dataset.specs.declared.data_set.Element.{Element};
 ghost use Rattle.dq_dataset.specs.declared.data_set.Value.TheVariants.{Items};
-ghost use Rattle.dq_match.specs.declared.keys.Place.{Place};
-ghost use Rattle.dq_match.specs.declared.keys.Place.TheVariants.{Outer};
+ghost use Rattle.dq_match.specs.declared.keys.Nesting.{Nesting};
+ghost use Rattle.dq_match.specs.declared.keys.Nesting.TheVariants.{Outer};
 ghost use Rattle.dq_match.specs.declared.supported.KeyScope.{KeyScope};
 ghost use Rattle.dq_match.specs.declared.wildcards.Casing.{Casing};
 ghost use Rattle.dq_match.specs.Wildcards.{FitsPattern, wild};
@@ -40,7 +40,7 @@ pub fn wild_cards_fit()
 /// items (PS3.4 section C.2.2.2.6).
 #[tactic(auto, using(crate::proofs::Fitting::fits_each))]
 pub fn keys_are_met_alone_and_as_a_period()
-    ensures each { (place : Place) (keys held : ElementList)
+    ensures each { (place : Nesting) (keys held : ElementList)
         → (all_met place keys held ≡ true) ↔ (EachIsMet place keys held × PeriodIsMet keys held) }
     ensures items { (keys : ElementList) (others : ItemList) (items : List ElementList)
         → (items_meet (item keys others) items ≡ true) ↔ SomeItemFits keys items }
@@ -63,7 +63,7 @@ pub fn a_value_meets_itself()
 pub fn universal_keys_are_met()
     ensures one { (vr : Vr) (key held : List ℕ)
         → is_universal vr key ≡ true → octets_meet vr key held ≡ true }
-    ensures all { (place : Place) (keys held : ElementList)
+    ensures all { (place : Nesting) (keys held : ElementList)
         → all_universal keys ≡ true → all_met place keys held ≡ true }
     ensures nothing { (identifier held : ElementList)
         → asks_nothing identifier ≡ true → fits identifier held ≡ true }

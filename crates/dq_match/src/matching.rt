@@ -8,9 +8,9 @@ ghost use Rattle.jiff.specs.Words.{epoch_day};
 ghost use Rattle.dq_dataset.specs.View.{as_elements, items_of};
 ghost use Rattle.dq_match.specs.DateBounds.{days_of};
 ghost use Rattle.dq_match.specs.Matching.{asked_days, asked_times, start_day, start_time, period, is_start, is_matched_elsewhere, each_met, items_meet, all_met, fits, meets};
-ghost use Rattle.dq_match.specs.declared.keys.Place.TheVariants.{Inner};
+ghost use Rattle.dq_match.specs.declared.keys.Nesting.TheVariants.{Inner};
 
-use crate::keys::{Place, items_in, octets_in};
+use crate::keys::{Nesting, items_in, octets_in};
 use crate::ranges::{Bounds, Span, date_range, is_within, time_range};
 use crate::values::octets_meet;
 use dq_dataset::{DataSet, Element, Value};
@@ -66,7 +66,7 @@ fn is_start(tag: Tag) -> bool
     tag == SCHEDULED_PROCEDURE_STEP_START_DATE || tag == SCHEDULED_PROCEDURE_STEP_START_TIME
 }
 
-pub(crate) fn is_matched_elsewhere(place: Place, joined: bool, tag: Tag) -> bool
+pub(crate) fn is_matched_elsewhere(place: Nesting, joined: bool, tag: Tag) -> bool
     ensures { result ≡ is_matched_elsewhere place joined tag }
 {
     !place.is_key(tag) || (joined && is_start(tag))
@@ -74,7 +74,7 @@ pub(crate) fn is_matched_elsewhere(place: Place, joined: bool, tag: Tag) -> bool
 
 /// Whether a record, or an item of one, meets all keys.
 #[cycle(matching)]
-pub(crate) fn all_met(place: Place, keys: &DataSet, held: &DataSet) -> bool
+pub(crate) fn all_met(place: Nesting, keys: &DataSet, held: &DataSet) -> bool
     ensures { result ≡ all_met place keys.now held.now }
 {
     match period(keys, held) {
@@ -86,7 +86,7 @@ pub(crate) fn all_met(place: Place, keys: &DataSet, held: &DataSet) -> bool
 /// Whether each key is met by the element with its tag. The start of a procedure step is passed
 /// over where its date and time are joined.
 #[cycle(matching)]
-fn each_met(place: Place, joined: bool, keys: &[Element], held: &DataSet) -> bool
+fn each_met(place: Nesting, joined: bool, keys: &[Element], held: &DataSet) -> bool
     ensures { result ≡ each_met (as_elements keys.now) place held.now joined }
 {
     for key in keys {
@@ -125,7 +125,7 @@ fn some_item_meets(keys: &DataSet, held: &[DataSet]) -> bool
     ensures { result ≡ list_any (λ d. all_met Inner keys.now d) held.now }
 {
     for item in held {
-        if all_met(Place::Inner, keys, item) {
+        if all_met(Nesting::Inner, keys, item) {
             return true;
         }
     }
@@ -137,5 +137,5 @@ fn some_item_meets(keys: &DataSet, held: &[DataSet]) -> bool
 pub fn fits(identifier: &DataSet, held: &DataSet) -> bool
     ensures { result ≡ fits identifier.now held.now }
 {
-    all_met(Place::Outer, identifier, held)
+    all_met(Nesting::Outer, identifier, held)
 }

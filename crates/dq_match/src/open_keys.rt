@@ -2,7 +2,7 @@
 ghost use Rattle.std.specs.Prelude.{◌≡◌};
 ghost use Rattle.dq_match.specs.Universal.{has_nothing_to_meet, is_open_key, asks_nothing};
 
-use crate::keys::Place;
+use crate::keys::Nesting;
 use crate::values::is_universal;
 use dq_dataset::{DataSet, Element, Value};
 use dq_vr::Vr;
@@ -19,7 +19,7 @@ fn has_nothing_to_meet(vr: Vr, value: &Value) -> bool
 fn is_open_key(key: &Element) -> bool
     ensures { result ≡ is_open_key key.now }
 {
-    !Place::Outer.is_key(key.tag) || has_nothing_to_meet(key.vr, &key.value)
+    !Nesting::Outer.is_key(key.tag) || has_nothing_to_meet(key.vr, &key.value)
 }
 
 /// Whether an identifier asks nothing of a record, so that every record fits it (PS3.4 section

@@ -3,12 +3,12 @@ ghost use Rattle.std.specs.Prelude.{◌≡◌, map};
 ghost use Rattle.std.specs.Option.{option_copied};
 ghost use Rattle.std.specs.List.{list_any, list_all};
 ghost use Rattle.dq_dataset.specs.View.{as_elements, elements_of, items_of};
-ghost use Rattle.dq_match.specs.declared.keys.Place.TheVariants.{Inner};
+ghost use Rattle.dq_match.specs.declared.keys.Nesting.TheVariants.{Inner};
 ghost use Rattle.dq_match.specs.AsLent.{is_met_at_once};
 ghost use Rattle.dq_match.specs.Matching.{each_met, items_meet, all_met, fits, meets};
 ghost use Rattle.dq_match.specs.Prepared.{element_of_key};
 
-use crate::keys::{Place, items_in, octets_in};
+use crate::keys::{Nesting, items_in, octets_in};
 use crate::lending::is_left;
 use crate::matching::is_matched_elsewhere;
 use crate::prepared::{PreparedKey, PreparedKeys, PreparedValue};
@@ -17,7 +17,7 @@ use dq_vr::Tag;
 
 /// Whether a record, or an item of one, meets all keys.
 #[cycle(prepared_matching)]
-fn all_met(place: Place, keys: &PreparedKeys, held: &DataSet) -> bool
+fn all_met(place: Nesting, keys: &PreparedKeys, held: &DataSet) -> bool
     ensures { result ≡ all_met place keys.now held.now }
 {
     match keys.period(held) {
@@ -29,7 +29,7 @@ fn all_met(place: Place, keys: &PreparedKeys, held: &DataSet) -> bool
 /// Whether each key is met by the element with its tag. The start of a procedure step is passed
 /// over where its date and time are joined.
 #[cycle(prepared_matching)]
-fn each_met(place: Place, joined: bool, keys: &[PreparedKey], held: &DataSet) -> bool
+fn each_met(place: Nesting, joined: bool, keys: &[PreparedKey], held: &DataSet) -> bool
     ensures { result ≡ each_met (as_elements (map element_of_key keys.now)) place held.now joined }
 {
     for key in keys {
@@ -65,7 +65,7 @@ fn some_item_meets(keys: &PreparedKeys, held: &[DataSet]) -> bool
     ensures { result ≡ list_any (λ d. all_met Inner keys.now d) held.now }
 {
     for item in held {
-        if all_met(Place::Inner, keys, item) {
+        if all_met(Nesting::Inner, keys, item) {
             return true;
         }
     }
@@ -89,7 +89,7 @@ impl PreparedKeys {
     pub fn fits(&self, held: &DataSet) -> bool
         ensures { result ≡ fits self.now held.now }
     {
-        all_met(Place::Outer, self, held)
+        all_met(Nesting::Outer, self, held)
     }
 
     /// Whether a record meets each key, each for itself, but those that are left for later.

@@ -4,12 +4,12 @@
 ghost use Rattle.std.specs.Prelude.{◌≡◌, IfOk, map, filter};
 ghost use Rattle.std.specs.Option.{option_copied};
 ghost use Rattle.dq_dataset.specs.View.{as_elements, elements_of};
-ghost use Rattle.dq_match.specs.declared.keys.Place.TheVariants.{Inner};
+ghost use Rattle.dq_match.specs.declared.keys.Nesting.TheVariants.{Inner};
 ghost use Rattle.dq_match.specs.Identifiers.{HasKnownTags};
 ghost use Rattle.dq_match.specs.Matching.{all_met};
 ghost use Rattle.dq_match.specs.Responses.{no_value, unless_empty, character_set, put_first, cut_keys, shown_keys, shown_element, shown_found, shown_data_set};
 
-use crate::keys::{Place, element_at, octets_in};
+use crate::keys::{Nesting, element_at, octets_in};
 use crate::matching::all_met;
 use crate::values::has_no_values;
 use dq_dataset::{DataSet, Element, Value};
@@ -87,7 +87,7 @@ fn cut_keys(key: &Element) -> Option<&DataSet>
 #[cycle(shown)]
 fn shown_keys(
     alloc: Global,
-    place: Place,
+    place: Nesting,
     keys: &[Element],
     held: &[Element],
 ) -> Result<Vec<Element>, AllocError>
@@ -149,10 +149,10 @@ fn shown_items(alloc: Global, keys: &DataSet, items: &[DataSet]) -> Result<Vec<D
 {
     let mut shown = Vec::new(alloc);
     for item in items {
-        if !all_met(Place::Inner, keys, item) {
+        if !all_met(Nesting::Inner, keys, item) {
             continue;
         }
-        let elements = shown_keys(alloc, Place::Inner, keys.elements(), item.elements())?;
+        let elements = shown_keys(alloc, Nesting::Inner, keys.elements(), item.elements())?;
         shown.push(DataSet::from_elements(elements))?;
     }
     Ok(shown)
@@ -165,7 +165,12 @@ pub fn shown(alloc: Global, identifier: &DataSet, held: &DataSet) -> Result<Data
     requires { HasKnownTags identifier.now }
     ensures { IfOk result (λ d. d ≡ shown_data_set identifier.now held.now) }
 {
-    let keys = shown_keys(alloc, Place::Outer, identifier.elements(), held.elements())?;
+    let keys = shown_keys(
+        alloc,
+        Nesting::Outer,
+        identifier.elements(),
+        held.elements(),
+    )?;
     let elements = put_first(alloc, character_set(held), keys)?;
     Ok(DataSet::from_elements(elements))
 }

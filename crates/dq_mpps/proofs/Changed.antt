@@ -26,7 +26,7 @@ use Rattle.dq_mpps.specs.Steps.{step_record}
 use Rattle.dq_mpps.specs.Changing.{kept_data_set, changes_fixed, change_refusals, set_outcome}
 use Rattle.dq_mpps.specs.Changed.{step_at, IsStepChanged}
 use Rattle.dq_mpps.proofs.Created.{accepted, apart, put_here, put_elsewhere}
-use Rattle.dq_mpps.proofs.Standing.{standing_after, fixed_stay}
+use Rattle.dq_mpps.proofs.AttributesAfter.{standing_after, fixed_stay}
 use Rattle.dq_mpps.proofs.StaysSound.{short_step}
 
 -- ---- what is accepted

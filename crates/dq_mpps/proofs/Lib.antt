@@ -5,5 +5,5 @@ pub mod Named
 pub mod Others
 pub mod Outcomes
 pub mod Refusals
-pub mod Standing
+pub mod AttributesAfter
 pub mod StaysSound

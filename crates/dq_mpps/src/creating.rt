@@ -8,7 +8,7 @@ ghost use Rattle.dq_config.specs.Limits.{limits_of};
 ghost use Rattle.dq_dimse.specs.Holding.{plain_message};
 ghost use Rattle.dq_tables.specs.Rows.{row_of};
 ghost use Rattle.dq_tables.specs.Serving.{Serves, first_refusal};
-ghost use Rattle.dq_archive.specs.Archives.{Looks, Decides};
+ghost use Rattle.dq_archive.specs.Archives.{QueriesOnly, Decides};
 ghost use Rattle.dq_mpps.specs.Steps.{step_record};
 ghost use Rattle.dq_mpps.specs.Creating.{create_attribute_refusals, create_refusals, create_outcome};
 ghost use Rattle.dq_mpps.specs.Views.{step_created};
@@ -91,7 +91,7 @@ fn refusal<T: Tables>(
     archive: &mut Archive<'_, T>,
     sent: &Sent<'_>,
 ) -> Result<Option<u16>, TableFault>
-    ensures { Looks T.state archive.old archive.new (λ records. first_refusal (create_refusals
+    ensures { QueriesOnly T.state archive.old archive.new (λ records. first_refusal (create_refusals
         (limits_of archive.old.institution.now) records sent.now.uid.now sent.now.data_set.now)) result }
 {
     if archive.has(Kind::Step, sent.uid)? {

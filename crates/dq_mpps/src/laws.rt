@@ -56,7 +56,7 @@ pub fn kept_steps_stay()
 
 /// After a change that is not refused each element that was sent stands, and any other as it was
 /// kept (PS3.7 section 10.1.3).
-#[tactic(auto, using(crate::proofs::Standing::standing_after))]
+#[tactic(auto, using(crate::proofs::AttributesAfter::standing_after))]
 pub fn what_is_sent_stands()
     ensures { (kept sent : ElementList) → IsDataSet sent → (tag : Tag)
         → element_at tag (merged_data_set kept sent)
@@ -65,7 +65,7 @@ pub fn what_is_sent_stands()
 
 /// A change that is not refused leaves the attributes of the patient and the other fixed ones as
 /// they are kept (PS3.4 table F.7.2-1).
-#[tactic(auto, using(crate::proofs::Standing::fixed_stay))]
+#[tactic(auto, using(crate::proofs::AttributesAfter::fixed_stay))]
 pub fn fixed_attributes_stay()
     ensures { (kept sent : ElementList) → IsDataSet kept → IsDataSet sent
         → changes_fixed kept sent ≡ false → (e : Element) → is_fixed e ≡ true

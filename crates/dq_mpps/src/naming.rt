@@ -2,7 +2,7 @@
 ghost use Rattle.std.specs.Prelude.{◌≡◌, IfOk};
 ghost use Rattle.dq_list.specs.Octets.{octets_of_vectors};
 ghost use Rattle.dq_tables.specs.Starting.{entries_named};
-ghost use Rattle.dq_archive.specs.Archives.{Looks};
+ghost use Rattle.dq_archive.specs.Archives.{QueriesOnly};
 ghost use Rattle.dq_mpps.specs.Views.{AreNamed, ids_kept};
 
 use dq_archive::Archive;
@@ -18,7 +18,7 @@ pub(crate) fn entries_named<T: Tables>(
     archive: &mut Archive<'_, T>,
     step: &DataSet,
 ) -> Result<Listed<Listed<u8>>, TableFault>
-    ensures { Looks T.state archive.old archive.new
+    ensures { QueriesOnly T.state archive.old archive.new
         (λ records. entries_named records step.now) result }
 {
     honest_rows_are_sound::<T>();
@@ -43,7 +43,7 @@ fn kept_of<T: Tables>(
     archive: &mut Archive<'_, T>,
     mut ids: BTreeSet<Vec<u8>>,
 ) -> Result<Listed<Listed<u8>>, TableFault>
-    ensures { Looks T.state archive.old archive.new
+    ensures { QueriesOnly T.state archive.old archive.new
         (λ records. ids_kept records (octets_of_vectors ids.keys)) result }
 {
     let mut keys = Listed::empty(archive.alloc);

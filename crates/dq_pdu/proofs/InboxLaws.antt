@@ -2,17 +2,17 @@
 use Rattle.std.proofs.Common.{◌≡◌, ℕ, ◌+◌, ◌<◌, List, [], ◌∷◌, ◌++◌, length, Option, Some, None, refl, sym, ap, ◌∙◌, arith}
 use Rattle.std.proofs.lemmas.List.{append-nil}
 use Rattle.dq_pdu.specs.declared.fault.PduFault.{PduFault}
-use Rattle.dq_pdu.specs.declared.reading.Front.{Front}
-use Rattle.dq_pdu.specs.declared.reading.Front.TheVariants.{Partial, Faulty, Whole}
+use Rattle.dq_pdu.specs.declared.reading.FirstPdu.{FirstPdu}
+use Rattle.dq_pdu.specs.declared.reading.FirstPdu.TheVariants.{Partial, Faulty, Whole}
 use Rattle.dq_pdu.specs.declared.inbox.InboxState.{InboxState}
 use Rattle.dq_pdu.specs.declared.inbox.InboxState.TheVariants.{Reading, Stopped, Spent}
-use Rattle.dq_pdu.specs.Reading.{front}
+use Rattle.dq_pdu.specs.Reading.{first_pdu}
 use Rattle.dq_pdu.specs.Stream.{pdus_in, with_list, fault_at_front}
 use Rattle.dq_pdu.specs.Holding.{held_at, inbox_holding, HoldsPart}
 use Rattle.dq_pdu.specs.Inboxes.{inbox_fault, inbox_octets}
-use Rattle.dq_pdu.proofs.Fronts.{fault_of-faulty, partial_is_short}
+use Rattle.dq_pdu.proofs.FirstPdus.{fault_of-faulty, partial_is_short}
 use Rattle.dq_pdu.proofs.PduLaws.{pdus_partial, pdus_in-append}
-use Rattle.dq_pdu.proofs.StreamLaws.{HasNoFront, known}
+use Rattle.dq_pdu.proofs.StreamLaws.{HasNoFirstPdu, known}
 
 held_reading : (fault : Option PduFault) (rest held : List ℕ) → Reading held ≡ held_at fault rest → (fault ≡ None) × (rest ≡ held)
 held_reading None rest held e = (refl, cc)
@@ -32,19 +32,19 @@ stopped_on stream piece fault e = grind (arith, pdus_in-append, held_stopped)
 
 -- ---- no whole PDU is held
 
-part_by : (rest : List ℕ) (f : Front) → front rest ≡ f → HasNoFront rest → fault_at_front rest ≡ None → front rest ≡ Partial
+part_by : (rest : List ℕ) (f : FirstPdu) → first_pdu rest ≡ f → HasNoFirstPdu rest → fault_at_front rest ≡ None → first_pdu rest ≡ Partial
 part_by rest Partial e ends fault = e
 part_by rest (Faulty found) e ends fault = absurd (let z = sym (fault_of-faulty rest found e) ∙ fault in cc)
 part_by rest (Whole pdu count) e ends fault = absurd (ends pdu count e)
 
-held_part : (fault : Option PduFault) (rest : List ℕ) → (fault ≡ None → front rest ≡ Partial) → HoldsPart (held_at fault rest)
+held_part : (fault : Option PduFault) (rest : List ℕ) → (fault ≡ None → first_pdu rest ≡ Partial) → HoldsPart (held_at fault rest)
 held_part None rest h = h refl
 held_part (Some fault) rest h = tt
 
 pub holding-part : (stream : List ℕ) → HoldsPart (inbox_holding stream)
 holding-part stream =
     let k = known stream in
-    held_part (pdus_in stream).fault (pdus_in stream).rest (λ e. part_by (pdus_in stream).rest (front (pdus_in stream).rest) refl k.ends (sym k.fault ∙ e))
+    held_part (pdus_in stream).fault (pdus_in stream).rest (λ e. part_by (pdus_in stream).rest (first_pdu (pdus_in stream).rest) refl k.ends (sym k.fault ∙ e))
 
 -- ---- no octets
 
@@ -56,7 +56,7 @@ pub reading_is : (held rest : List ℕ) → Reading held ≡ Reading rest → he
 reading_is held rest e = cc
 
 -- what was held stays, since it has no PDU
-pub idle_exact : (held piece : List ℕ) → piece ≡ [] → front held ≡ Partial → pdus_in (held ++ piece) ≡ record { list = []; rest = held; fault = None }
+pub idle_exact : (held piece : List ℕ) → piece ≡ [] → first_pdu held ≡ Partial → pdus_in (held ++ piece) ≡ record { list = []; rest = held; fault = None }
 idle_exact held piece none part = ap (λ (p : List ℕ). pdus_in (held ++ p)) none ∙ ap (λ (s : List ℕ). pdus_in s) (append-nil held) ∙ pdus_partial held part
 
 -- ---- laws
@@ -88,4 +88,4 @@ held_is_short stream = part_is_short (inbox_holding stream) (holding-part stream
 pub rest_is_short : (stream : List ℕ) → (pdus_in stream).fault ≡ None → length (pdus_in stream).rest < 6 + 65536
 rest_is_short stream e =
     let k = known stream in
-    partial_is_short (pdus_in stream).rest (part_by (pdus_in stream).rest (front (pdus_in stream).rest) refl k.ends (sym k.fault ∙ e))
+    partial_is_short (pdus_in stream).rest (part_by (pdus_in stream).rest (first_pdu (pdus_in stream).rest) refl k.ends (sym k.fault ∙ e))

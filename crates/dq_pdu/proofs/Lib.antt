@@ -3,7 +3,7 @@ pub mod Spelled
 pub mod Filling
 pub mod Given
 pub mod ItemBodies
-pub mod Fronts
+pub mod FirstPdus
 pub mod PduLaws
 pub mod PartLaws
 pub mod ItemLaws

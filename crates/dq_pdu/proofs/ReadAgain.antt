@@ -4,8 +4,8 @@ use Rattle.std.specs.List.{flat_map}
 use Rattle.std.proofs.lemmas.Bool.{and_from, le-leb}
 use Rattle.std.proofs.lemmas.List.{append-nil, drop_at}
 use Rattle.dq_pdu.specs.declared.pdu.Pdu.{Pdu}
-use Rattle.dq_pdu.specs.declared.reading.Front.TheVariants.{Whole}
-use Rattle.dq_pdu.specs.Reading.{front}
+use Rattle.dq_pdu.specs.declared.reading.FirstPdu.TheVariants.{Whole}
+use Rattle.dq_pdu.specs.Reading.{first_pdu}
 use Rattle.dq_pdu.specs.Writing.{spelling, p_data, AreWritable, IsWritable}
 use Rattle.dq_pdu.specs.Stream.{pdus_in, with_first, with_list}
 use Rattle.dq_pdu.proofs.PduLaws.{pdus_whole}
@@ -18,7 +18,7 @@ read_on [] more w = refl
 read_on (pdu ∷ pdus) more w =
     let behind = flat_map spelling pdus ++ more in
     let grouped : flat_map spelling (pdu ∷ pdus) ++ more ≡ spelling pdu ++ behind = append_assoc (spelling pdu) (flat_map spelling pdus) more in
-    let e : front (spelling pdu ++ behind) ≡ Whole pdu (length (spelling pdu)) = spelled_read pdu (spelling pdu) behind w.0 in
+    let e : first_pdu (spelling pdu ++ behind) ≡ Whole pdu (length (spelling pdu)) = spelled_read pdu (spelling pdu) behind w.0 in
     let next : drop (length (spelling pdu)) (spelling pdu ++ behind) ≡ behind = drop_at (spelling pdu) behind (length (spelling pdu)) refl in
     ap (λ (s : List ℕ). pdus_in s) grouped ∙ pdus_whole (spelling pdu ++ behind) pdu (length (spelling pdu)) e
     ∙ ap (λ (s : List ℕ). with_first pdu (pdus_in s)) next ∙ ap (with_first pdu) (read_on pdus more w.1)

@@ -8,17 +8,17 @@ use Rattle.dq_pdu.specs.declared.pdu.Pdu.{Pdu}
 use Rattle.dq_pdu.specs.declared.pdu.Pdu.TheVariants.{Request as request_pdu, Accept as accept_pdu, Reject, PData, ReleaseRq, ReleaseRp, Abort}
 use Rattle.dq_pdu.specs.declared.pdu.Pdv.{Pdv}
 use Rattle.dq_pdu.specs.declared.pdu.Request.{Request}
-use Rattle.dq_pdu.specs.declared.reading.Front.TheVariants.{Whole}
+use Rattle.dq_pdu.specs.declared.reading.FirstPdu.TheVariants.{Whole}
 use Rattle.dq_pdu.specs.declared.pdu.Accept.{Accept}
 use Rattle.dq_list.proofs.Readers.{bind_some, provided_some}
 use Rattle.dq_pdu.specs.Octets.{parts_of}
 use Rattle.dq_pdu.specs.Spelling.{IsBody, SpellsPdu}
-use Rattle.dq_pdu.specs.Reading.{pdv_at, request_of, accept_of, data_pdu_of, if_short, pdu_of, front, body_length, is_unrecognized}
+use Rattle.dq_pdu.specs.Reading.{pdv_at, request_of, accept_of, data_pdu_of, if_short, pdu_of, first_pdu, body_length, is_unrecognized}
 use Rattle.dq_pdu.proofs.PartLaws.{some_is}
 use Rattle.dq_pdu.proofs.ItemLaws.{values_fill, values_read}
 use Rattle.dq_pdu.proofs.ContextLaws.{not_nil, filled}
 use Rattle.dq_pdu.proofs.AssociateLaws.{request_spelled, request_again, accept_spelled, accept_again}
-use Rattle.dq_pdu.proofs.Fronts.{IsWhole, whole_is, whole_from}
+use Rattle.dq_pdu.proofs.FirstPdus.{IsWhole, whole_is, whole_from}
 
 -- which of two it was
 chose : {A : Type 0} (b : Bool) (x y z : A) → cond b x y ≡ z → ((b ≡ true) × (x ≡ z)) ⊎ ((b ≡ false) × (y ≡ z))
@@ -153,12 +153,12 @@ known_kind ReleaseRq kind body is = rw is.0 refl
 known_kind ReleaseRp kind body is = rw is.0 refl
 known_kind (Abort source reason) kind body is = rw is.0 refl
 
-pub spelled_read : (pdu : Pdu) (octets behind : List ℕ) → SpellsPdu pdu octets → front (octets ++ behind) ≡ Whole pdu (length octets)
+pub spelled_read : (pdu : Pdu) (octets behind : List ℕ) → SpellsPdu pdu octets → first_pdu (octets ++ behind) ≡ Whole pdu (length octets)
 spelled_read pdu octets behind s =
     let w = whole_at s.kind s.reserved s.size s.body behind pdu (known_kind pdu s.kind s.body s.says) s.sized.wide s.sized.value s.short
     (pdu_read pdu s.kind s.body s.says) in
     let count : length s.body + 6 ≡ length octets = omega (arith, ap length s.whole, length-append s.size s.body, s.sized.wide) in
-    ap (λ (o : List ℕ). front (o ++ behind)) s.whole ∙ whole_from _ pdu (length s.body + 6) w ∙ ap (Whole pdu) count
+    ap (λ (o : List ℕ). first_pdu (o ++ behind)) s.whole ∙ whole_from _ pdu (length s.body + 6) w ∙ ap (Whole pdu) count
 
 front_split : (s : List ℕ) (n : ℕ) → 6 ≤ length s → take (n + 6) s ≡ get_or s 0 0 ∷ get_or s 1 0 ∷ (take 4 (drop 2 s) ++ take n (drop 6 s))
 front_split [] n h = absurd (omega arith)
@@ -169,5 +169,5 @@ front_split (a ∷ b ∷ c ∷ d ∷ []) n h = absurd (omega arith)
 front_split (a ∷ b ∷ c ∷ d ∷ f ∷ []) n h = absurd (omega arith)
 front_split (a ∷ b ∷ c ∷ d ∷ f ∷ g ∷ s) n h = grind arith
 
-pub front_spelled : (s : List ℕ) (pdu : Pdu) (count : ℕ) → front s ≡ Whole pdu count → SpellsPdu pdu (take count s)
+pub front_spelled : (s : List ℕ) (pdu : Pdu) (count : ℕ) → first_pdu s ≡ Whole pdu count → SpellsPdu pdu (take count s)
 front_spelled s pdu count e = grind (arith, whole_is, pdu_spelled, length-take-le, front_split, length-drop)

@@ -1,10 +1,10 @@
 -- For the prover alone: what an inbox holds between two pieces. It may change.
 use Rattle.std.specs.Prelude.{◌≡◌, ℕ, List, Option, Some, None}
 use Rattle.dq_pdu.specs.declared.fault.PduFault.{PduFault}
-use Rattle.dq_pdu.specs.declared.reading.Front.TheVariants.{Partial}
+use Rattle.dq_pdu.specs.declared.reading.FirstPdu.TheVariants.{Partial}
 use Rattle.dq_pdu.specs.declared.inbox.InboxState.{InboxState}
 use Rattle.dq_pdu.specs.declared.inbox.InboxState.TheVariants.{Reading, Stopped, Spent}
-use Rattle.dq_pdu.specs.Reading.{front}
+use Rattle.dq_pdu.specs.Reading.{first_pdu}
 use Rattle.dq_pdu.specs.Stream.{pdus_in}
 
 -- what an inbox holds: the rest after the last PDU, or the fault
@@ -17,6 +17,6 @@ inbox_holding stream = held_at (pdus_in stream).fault (pdus_in stream).rest
 
 -- an inbox holds no whole PDU
 abbrev pub HoldsPart : InboxState → Type 0
-HoldsPart (Reading rest) = front rest ≡ Partial
+HoldsPart (Reading rest) = first_pdu rest ≡ Partial
 HoldsPart (Stopped fault) = Unit {0}
 HoldsPart Spent = Unit {0}

@@ -7,8 +7,8 @@ use Rattle.dq_list.specs.Readers.{◌>>=◌, only_if}
 use Rattle.dq_pdu.specs.declared.reading.Item.{Item}
 use Rattle.dq_pdu.specs.declared.reading.ReadError.{ReadError}
 use Rattle.dq_pdu.specs.declared.reading.ReadError.TheVariants as errors
-use Rattle.dq_pdu.specs.declared.reading.Front.{Front}
-use Rattle.dq_pdu.specs.declared.reading.Front.TheVariants.{Partial, Faulty, Whole}
+use Rattle.dq_pdu.specs.declared.reading.FirstPdu.{FirstPdu}
+use Rattle.dq_pdu.specs.declared.reading.FirstPdu.TheVariants.{Partial, Faulty, Whole}
 use Rattle.dq_pdu.specs.declared.bodies.Associate.{Associate}
 use Rattle.dq_pdu.specs.declared.fault.PduFault.TheVariants.{Unrecognized, TooLong, Malformed}
 use Rattle.dq_pdu.specs.declared.pdu.Pdu.{Pdu}
@@ -176,7 +176,7 @@ pdu_of kind body =
     else None))))))
 
 -- a PDU of so many octets, or none where the body breaks a rule
-abbrev pub whole_or_malformed : Option Pdu → ℕ → Front
+abbrev pub whole_or_malformed : Option Pdu → ℕ → FirstPdu
 whole_or_malformed None count = Faulty Malformed
 whole_or_malformed (Some pdu) count = Whole pdu count
 
@@ -189,8 +189,8 @@ abbrev pub is_unrecognized : ℕ → Bool
 is_unrecognized kind = nat_lt kind a_associate_rq || nat_lt a_abort kind
 
 -- what octets begin with: part of a PDU, a fault, or a whole PDU of so many octets
-unfoldable pub front : List ℕ → Front
-front octets =
+unfoldable pub first_pdu : List ℕ → FirstPdu
+first_pdu octets =
     let size = body_length octets in
     let behind = drop pdu_header octets in
     if nat_lt (length octets) pdu_header then Partial

@@ -4,11 +4,11 @@ use Rattle.std.specs.Prelude.{◌≡◌, ℕ, zero, suc, nat_lt, if◌then◌els
 use Rattle.dq_pdu.specs.declared.pdu.Pdu.{Pdu}
 use Rattle.dq_pdu.specs.declared.fault.PduFault.{PduFault}
 use Rattle.dq_pdu.specs.declared.fault.PduFault.TheVariants.{Unrecognized, TooLong, Malformed}
-use Rattle.dq_pdu.specs.declared.reading.Front.{Front}
-use Rattle.dq_pdu.specs.declared.reading.Front.TheVariants.{Partial, Faulty, Whole}
+use Rattle.dq_pdu.specs.declared.reading.FirstPdu.{FirstPdu}
+use Rattle.dq_pdu.specs.declared.reading.FirstPdu.TheVariants.{Partial, Faulty, Whole}
 use Rattle.dq_pdu.specs.Numbers.{pdu_header, longest_body}
 use Rattle.dq_pdu.specs.Spelling.{SpellsPdu}
-use Rattle.dq_pdu.specs.Reading.{body_length, is_unrecognized, front}
+use Rattle.dq_pdu.specs.Reading.{body_length, is_unrecognized, first_pdu}
 
 -- the stream is spellings of the PDUs, one after the other, and then the rest
 abbrev pub Follow : List Pdu → List ℕ → List ℕ → Type 0
@@ -48,14 +48,15 @@ with_first pdu others =
     record { list = pdu ∷ others.list; rest = others.rest; fault = others.fault }
 
 -- what stands at the front, and then what follows it
-abbrev pub pdus_from : Front → List ℕ → (List ℕ → Pdus) → Pdus
+abbrev pub pdus_from : FirstPdu → List ℕ → (List ℕ → Pdus) → Pdus
 pdus_from Partial stream others = record { list = []; rest = stream; fault = None }
 pdus_from (Faulty fault) stream others = record { list = []; rest = stream; fault = Some fault }
 pdus_from (Whole pdu count) stream others = with_first pdu (others (drop count stream))
 
 unfoldable pub pdus_within : ℕ → List ℕ → Pdus
 pdus_within zero stream = record { list = []; rest = stream; fault = None }
-pdus_within (suc fuel) stream = pdus_from (front stream) stream (λ others. pdus_within fuel others)
+pdus_within (suc fuel) stream =
+    pdus_from (first_pdu stream) stream (λ others. pdus_within fuel others)
 
 -- the PDUs of a stream, computed: no more of them than octets
 abbrev pub pdus_in : List ℕ → Pdus

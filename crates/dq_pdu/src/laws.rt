@@ -9,11 +9,11 @@ ghost use Rattle.dq_pdu.specs.declared.pdu.Pdu.{Pdu};
 ghost use Rattle.dq_pdu.specs.declared.pdu.Pdu.TheVariants.{Request as request_pdu, Accept as accept_pdu};
 ghost use Rattle.dq_pdu.specs.declared.pdu.Request.{Request};
 ghost use Rattle.dq_pdu.specs.declared.pdu.Accept.{Accept};
-ghost use Rattle.dq_pdu.specs.declared.reading.Front.TheVariants.{Whole};
+ghost use Rattle.dq_pdu.specs.declared.reading.FirstPdu.TheVariants.{Whole};
 ghost use Rattle.dq_pdu.specs.Numbers.{longest_body, pdu_header, pdv_header};
 ghost use Rattle.dq_pdu.specs.Octets.{is_uid_padding, without_uid_padding};
 ghost use Rattle.dq_pdu.specs.Spelling.{SpellsPdu};
-ghost use Rattle.dq_pdu.specs.Reading.{front};
+ghost use Rattle.dq_pdu.specs.Reading.{first_pdu};
 ghost use Rattle.dq_pdu.specs.Writing.{spelling, p_data, is_bare, IsWritable, AreWritable};
 ghost use Rattle.dq_pdu.specs.Stream.{Splits, pdus_in, fault_at_front, with_list, stream_read_on};
 ghost use Rattle.dq_pdu.specs.Inboxes.{InboxAfter, inbox_fault, inbox_octets};
@@ -28,15 +28,15 @@ pub fn spelling_is_unique()
 /// What is read is spelled so, and what is spelled so is read, whatever follows it.
 pub fn reading_is_spelling()
     ensures spelled { (octets : List ℕ) (pdu : Pdu) (count : ℕ)
-        → front octets ≡ Whole pdu count → SpellsPdu pdu (take count octets) }
+        → first_pdu octets ≡ Whole pdu count → SpellsPdu pdu (take count octets) }
     ensures read { (octets others : List ℕ) (pdu : Pdu) → SpellsPdu pdu octets
-        → front (octets ++ others) ≡ Whole pdu (length octets) }
+        → first_pdu (octets ++ others) ≡ Whole pdu (length octets) }
 {}
 
 /// What is written for a PDU is read as that PDU, whatever follows it.
 pub fn writing_is_read()
     ensures { (pdu : Pdu) (others : List ℕ) → IsWritable pdu
-        → front (spelling pdu ++ others) ≡ Whole pdu (length (spelling pdu)) }
+        → first_pdu (spelling pdu ++ others) ≡ Whole pdu (length (spelling pdu)) }
 {}
 
 /// PDUs that are written one after the other are read as those PDUs, whatever follows them; where

@@ -1,7 +1,7 @@
 //! What octets begin with (PS3.8 section 9.3.1), and why a body cannot be read.
 ghost use Rattle.std.specs.Prelude.{◌≡◌, IfOk};
 ghost use Rattle.dq_pdu.specs.declared.reading.ReadError.TheVariants.{Memory};
-ghost use Rattle.dq_pdu.specs.Reading.{front};
+ghost use Rattle.dq_pdu.specs.Reading.{first_pdu};
 
 use crate::bodies::pdu_of;
 use crate::fault::PduFault;
@@ -42,7 +42,7 @@ impl<T: Drop> From<AllocFailed<T>> for ReadError {
 
 /// What octets begin with.
 #[derive(Drop)]
-pub(crate) enum Front {
+pub(crate) enum FirstPdu {
     /// Less than a PDU.
     Partial,
     Faulty(PduFault),
@@ -52,27 +52,27 @@ pub(crate) enum Front {
 
 /// What octets begin with: a PDU's type, a reserved octet, the length of its body, and its body
 /// (PS3.8 section 9.3.1).
-#[tactic(auto, unfolding(crate::specs::Reading::front))]
-pub(crate) fn front_of(alloc: Global, octets: &[u8]) -> Result<Front, AllocError>
-    ensures { IfOk result (λ found. found ≡ front octets.now) }
+#[tactic(auto, unfolding(crate::specs::Reading::first_pdu))]
+pub(crate) fn first_pdu_of(alloc: Global, octets: &[u8]) -> Result<FirstPdu, AllocError>
+    ensures { IfOk result (λ found. found ≡ first_pdu octets.now) }
 {
     if octets.len() < PDU_HEADER {
-        return Ok(Front::Partial);
+        return Ok(FirstPdu::Partial);
     }
     let (header, behind) = octets.split_at(PDU_HEADER);
     if header[0] < pdu_type::A_ASSOCIATE_RQ || header[0] > pdu_type::A_ABORT {
-        return Ok(Front::Faulty(PduFault::Unrecognized));
+        return Ok(FirstPdu::Faulty(PduFault::Unrecognized));
     }
     let size = u32::from_be_bytes([header[2], header[3], header[4], header[5]]) as usize;
     if size > LONGEST_BODY {
-        return Ok(Front::Faulty(PduFault::TooLong));
+        return Ok(FirstPdu::Faulty(PduFault::TooLong));
     }
     if behind.len() < size {
-        return Ok(Front::Partial);
+        return Ok(FirstPdu::Partial);
     }
     match pdu_of(alloc, header[0], behind.split_at(size).0) {
-        Ok(pdu) => Ok(Front::Whole(pdu, size + PDU_HEADER)),
-        Err(ReadError::Malformed) => Ok(Front::Faulty(PduFault::Malformed)),
+        Ok(pdu) => Ok(FirstPdu::Whole(pdu, size + PDU_HEADER)),
+        Err(ReadError::Malformed) => Ok(FirstPdu::Faulty(PduFault::Malformed)),
         Err(ReadError::Memory) => Err(AllocError),
     }
 }

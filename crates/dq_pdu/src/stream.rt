@@ -4,7 +4,7 @@ ghost use Rattle.dq_pdu.specs.Stream.{pdus_in};
 
 use crate::fault::PduFault;
 use crate::pdu::Pdu;
-use crate::reading::{Front, front_of};
+use crate::reading::{FirstPdu, first_pdu_of};
 use std::alloc::{AllocError, Global};
 
 /// The PDUs that octets begin with, the fault after them, and the octets that are left.
@@ -20,10 +20,10 @@ pub(crate) fn pdus_of(
     let mut pdus = Vec::new(alloc);
     let mut rest = octets;
     'pdus: loop {
-        match front_of(alloc, rest)? {
-            Front::Partial => return Ok((pdus, None, rest)),
-            Front::Faulty(fault) => return Ok((pdus, Some(fault), rest)),
-            Front::Whole(pdu, count) => {
+        match first_pdu_of(alloc, rest)? {
+            FirstPdu::Partial => return Ok((pdus, None, rest)),
+            FirstPdu::Faulty(fault) => return Ok((pdus, Some(fault), rest)),
+            FirstPdu::Whole(pdu, count) => {
                 pdus.push(pdu)?;
                 rest = rest.split_at(count).1;
             }

@@ -11,7 +11,7 @@ use Rattle.dq_core.specs.declared.event.Event.TheVariants.{Open}
 use Rattle.dq_core.specs.declared.fault.Fault.{Fault}
 use Rattle.dq_core.specs.declared.fault.Fault.TheVariants as fault
 use Rattle.dq_core.specs.Faults.{server_fault_number as fault_number}
-use Rattle.dq_core.specs.Standing.{Standing}
+use Rattle.dq_core.specs.ServerView.{ServerView}
 use Rattle.dq_wires.specs.declared.calls.Call.{Call}
 use Rattle.dq_wires.specs.Deeds.{break_event}
 use Rattle.dq_wires.specs.Logs.{LogsAll}
@@ -161,7 +161,7 @@ service-fault fault.NoMemory = inl (inl refl)
 service-fault fault.Store = inl (inr refl)
 service-fault fault.Stopped = inr refl
 
-module _ {Tables : Type 0} (state : Tables → State) (breaks : Type 0) (old new : Standing Tables) where
+module _ {Tables : Type 0} (state : Tables → State) (breaks : Type 0) (old new : ServerView Tables) where
   stops-cause : (cut : Cut) (event : Option Event) (fault : TurnFault) → StopsBy (Fails state) old new event fault → HasCause breaks cut (stop_of_turning fault)
   stops-cause cut None fault stops = rw stops.1 (inl (inl refl))
   stops-cause cut (Some event) fault stops = rw stops.1 (service-fault stops.0)
@@ -249,7 +249,7 @@ module _ {Tables : Type 0} (state : Tables → State) where
   }
 
   -- rounds, and then one that was stopped
-  pub rounds-cut : {breaks : Type 0} {before mid after : Option (List Call)} {old one : Turning Tables} {new : Standing Tables} {made count : ℕ} {cause : Stop}
+  pub rounds-cut : {breaks : Type 0} {before mid after : Option (List Call)} {old one : Turning Tables} {new : ServerView Tables} {made count : ℕ} {cause : Stop}
       {First : List Round → Type 0} {Later Both : List Round → Halt → Type 0}
       → ((some later : List Round) (halt : Halt) → First some → WentOn state before mid old one (rounds_acts some) → Later later halt
       → Both (some ++ later) halt) → made + 1 ≤ count

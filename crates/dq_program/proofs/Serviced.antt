@@ -5,7 +5,7 @@ use Rattle.std.specs.List.{flat_map}
 use Rattle.dq_config.specs.declared.config.Institution.{Institution}
 use Rattle.dq_core.specs.Shared.{replies}
 use Rattle.dq_core.specs.declared.event.Event.{Event}
-use Rattle.dq_core.specs.Standing.{Standing}
+use Rattle.dq_core.specs.ServerView.{ServerView}
 use Rattle.dq_tables.specs.declared.row.Row.{Row}
 use Rattle.dq_tables.specs.Keeping.{State}
 use Rattle.dq_wires.specs.declared.calls.Call.{Call}
@@ -28,10 +28,10 @@ use Rattle.dq_program.specs.Serving.{Round, rounds_acts, Halt, HasConsole, HasCo
 -- what has gone on from a beginning is a service
 module _ {Tables : Type 0} (state : Tables → State) (rows : List Row) where
   abbrev pub AreReplied : Type 0
-  AreReplied = (rows : List Row) (first last : Standing Tables) (acts : List Act) (cut : Cut) → ServedOver state rows first last acts cut
+  AreReplied = (rows : List Row) (first last : ServerView Tables) (acts : List Act) (cut : Cut) → ServedOver state rows first last acts cut
       → (state last.tables).honest → replies_of (served_steps acts cut) ≡ replies first.institutions rows (served_events acts cut)
 
-  served-to : {Wired : Type 0} (log : Wired → Option (List Call)) (wires left : Wired) {first last : Standing Tables} {acts : List Act} {cut : Cut}
+  served-to : {Wired : Type 0} (log : Wired → Option (List Call)) (wires left : Wired) {first last : ServerView Tables} {acts : List Act} {cut : Cut}
       {institutions : List Institution} → AreReplied → ServedOver state rows first last acts cut
       → LogsAll (log wires) (log left) (flat_map act_calls acts ++ cut_calls cut) → (state last.tables).honest → first.institutions ≡ institutions
       → IsUncalled (log wires) → AreServed log institutions rows acts cut
@@ -46,7 +46,7 @@ module _ {Tables : Type 0} (state : Tables → State) (rows : List Row) where
   }
 
   -- the acts of a serving are served
-  pub served-by : {Wired : Type 0} (log : Wired → Option (List Call)) (wires left : Wired) {first last : Standing Tables} {hold : Hold} {acts : List Act}
+  pub served-by : {Wired : Type 0} (log : Wired → Option (List Call)) (wires left : Wired) {first last : ServerView Tables} {hold : Hold} {acts : List Act}
       {institutions : List Institution} → WholeServes state → AreReplied → Serving state rows (log wires) (log left) first last hold acts
       → (state last.tables).honest → first.institutions ≡ institutions → IsUncalled (log wires) → AreServed log institutions rows acts NoRoom
   served-by log wires left {first} {last} {hold} {acts} whole replied service honest same uncalled =
@@ -70,7 +70,7 @@ module _ {Tables : Type 0} (state : Tables → State) (rows : List Row) where
       }
 
   -- one that was cut off
-  pub service-cut : {Wired Console : Type 0} (log : Wired → Option (List Call)) (console_log : Console → Option (List Call)) (wires left : Wired) {breaks : Type 0} {old : Turning Tables} {new : Standing Tables}
+  pub service-cut : {Wired Console : Type 0} (log : Wired → Option (List Call)) (console_log : Console → Option (List Call)) (wires left : Wired) {breaks : Type 0} {old : Turning Tables} {new : ServerView Tables}
       {count made : ℕ} {AreSo : List Round → Halt → Type 0} {cause : Stop} (console : Option (List ℕ)) (institutions : List Institution) → AreReplied
       → Serving state rows (log wires) (log wires) old.server old.server old.hold [] → ((tables : Tables) → (state tables).honest)
       → old.server.institutions ≡ institutions → made ≡ count → IsUncalled (log wires)
@@ -89,9 +89,9 @@ module _ {Tables : Type 0} (state : Tables → State) (rows : List Row) where
 
 -- the events of a capture were played
 module _ {Tables : Type 0} (state : Tables → State) where
-  pub played-by : {Wired : Type 0} (log : Wired → Option (List Call)) (wires : Wired) {first : Standing Tables} {institutions : List Institution}
+  pub played-by : {Wired : Type 0} (log : Wired → Option (List Call)) (wires : Wired) {first : ServerView Tables} {institutions : List Institution}
       {events : List Event} → WholeServes state → AreReplied state [] → ((tables : Tables) → (state tables).honest) → first.institutions ≡ institutions
-      → IsUncalled (log wires) → ((acts : List Act) × (left : Wired) × (last : Standing Tables) × (hold : Hold) × ArePlayed [] nothing_held events acts
+      → IsUncalled (log wires) → ((acts : List Act) × (left : Wired) × (last : ServerView Tables) × (hold : Hold) × ArePlayed [] nothing_held events acts
       × Serving state [] (log wires) (log left) first last hold acts) → ArePlayedOver log institutions events
   played-by log wires whole replied honest same uncalled (acts, left, last, hold, played, service) = record {
     acts = acts;

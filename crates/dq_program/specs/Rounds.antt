@@ -3,7 +3,7 @@ use Rattle.std.specs.Prelude.{◌≡◌, ◌≤◌, ℕ, List, ◌++◌, length,
 use Rattle.std.specs.List.{flat_map}
 use Rattle.dq_tables.specs.declared.row.Row.{Row}
 use Rattle.dq_tables.specs.Keeping.{State}
-use Rattle.dq_core.specs.Standing.{Standing}
+use Rattle.dq_core.specs.ServerView.{ServerView}
 use Rattle.dq_wires.specs.declared.calls.Call.{Call}
 use Rattle.dq_wires.specs.Logs.{LogsAll}
 use Rattle.dq_wires.specs.Servings.{Act, act_calls, Serving}
@@ -27,23 +27,23 @@ pub record RoundsWent {Tables : Type 0} (state : Tables → State) (before after
 -- A service was cut off after these acts by this cut, and the calls are exactly those of both. The
 -- server is then as a fault leaves it.
 pub record CutOff {Tables : Type 0} (state : Tables → State) (rows : List Row)
-    (before after : Option (List Call)) (first new : Standing Tables) (acts : List Act)
+    (before after : Option (List Call)) (first new : ServerView Tables) (acts : List Act)
     (cut : Cut) : Type 0 where
-  pub last : Standing Tables
+  pub last : ServerView Tables
   pub served : ServedOver state rows first last acts cut
   pub calls : LogsAll before after (flat_map act_calls acts ++ cut_calls cut)
   pub left : IsLeft state last new
 
 -- So many rounds were made at most, and the next was stopped, which are so.
 pub record RoundsCut {Tables : Type 0} (state : Tables → State) (breaks : Type 0)
-    (before after : Option (List Call)) (old : Turning Tables) (new : Standing Tables) (count : ℕ)
+    (before after : Option (List Call)) (old : Turning Tables) (new : ServerView Tables) (count : ℕ)
     (AreSo : List Round → Halt → Type 0) (cause : Stop) : Type 0 where
   pub rounds : List Round
   pub most : length rounds ≤ count
   pub halt : Halt
   pub so : AreSo rounds halt
   pub causes : HasCause breaks (halt_cut halt) cause
-  pub off : (rows : List Row) (start : Option (List Call)) (first : Standing Tables)
+  pub off : (rows : List Row) (start : Option (List Call)) (first : ServerView Tables)
       (done : List Act) → Serving state rows start before first old.server old.hold done
       → CutOff state rows start after first new (done ++ (rounds_acts rounds ++ halt_acts halt))
       (halt_cut halt)

@@ -4,7 +4,7 @@ ghost use Rattle.dq_wires.specs.Logs.{IfGot, failures_after_accept};
 
 use dq_assoc::Service;
 use dq_captures::Host;
-use dq_core::{Note, Noted, Notes};
+use dq_core::{LogEvent, Note, Notes};
 use dq_desk::Asks;
 use dq_front::Front;
 use dq_request::{Request, Response};
@@ -94,17 +94,17 @@ impl Counted {
 
     fn count(&mut self, note: &Note) {
         match &note.noted {
-            Noted::Accepted { .. } => {
+            LogEvent::Accepted { .. } => {
                 if self.open.push(note.number).is_ok() {
                     self.counters.accept();
                 }
             }
-            Noted::Rejected { .. } => self.counters.reject(),
-            Noted::Aborted { .. } if self.close(note.number) => self.counters.abort(),
-            Noted::Released if self.close(note.number) => self.counters.release(),
-            Noted::Ended if self.close(note.number) => self.counters.lose(),
-            Noted::Aborted { .. } | Noted::Released | Noted::Ended => {}
-            Noted::Served {
+            LogEvent::Rejected { .. } => self.counters.reject(),
+            LogEvent::Aborted { .. } if self.close(note.number) => self.counters.abort(),
+            LogEvent::Released if self.close(note.number) => self.counters.release(),
+            LogEvent::Ended if self.close(note.number) => self.counters.lose(),
+            LogEvent::Aborted { .. } | LogEvent::Released | LogEvent::Ended => {}
+            LogEvent::Served {
                 service,
                 status,
                 ..

@@ -4,7 +4,7 @@ ghost use Rattle.std.specs.Duration.{as_nanos};
 ghost use Rattle.std.specs.Option.{option_copied};
 ghost use Rattle.std.specs.Io.KnownBytes.{Appends};
 ghost use Rattle.dq_config.specs.declared.config.Institution.{Institution};
-ghost use Rattle.dq_core.specs.Standing.{StandsFor};
+ghost use Rattle.dq_core.specs.ServerView.{Refines};
 ghost use Rattle.dq_wires.specs.Stepping.{Moves, Fails};
 ghost use Rattle.dq_wires.specs.Turns.{TurnsWent, TurnsCut};
 ghost use Rattle.dq_words.specs.Words.{place_asked, callers_of, serving_in, web_front_in};
@@ -381,7 +381,7 @@ pub fn serve_by<N: AllocGlobal + Network, T: Tables + Drop, B: Backups<T>, W: Si
     server: Server<T>,
     output: &mut W,
 ) -> Result<T, Stop>
-    requires begins { StandsFor T.state (T.state server.tables).rows server [] }
+    requires begins { Refines T.state (T.state server.tables).rows server [] }
     ensures ready { OnOk result (Appends (W.written output.old) (W.written output.new)
         (ready_text service.entry.port)) }
     ensures flushed { OnOk result (W.is_flushed output.new) }

@@ -105,12 +105,12 @@ inside None h = absurd cc
 inside (Some x) h = (x, refl)
 
 -- the row that is found at a place, where one is
-record Standing (p : RowPlace) (rows : List Row) : Type 0 where
+record FoundRow (p : RowPlace) (rows : List Row) : Type 0 where
   row : Row
   at : IsAtPlace p row
   first : IsPermutation rows (row ∷ rows_elsewhere p rows)
 
-standing : (p : RowPlace) (rows : List Row) → IsRising rows → is_some (row_at p.kind p.institution p.key rows) ≡ true → Standing p rows
+standing : (p : RowPlace) (rows : List Row) → IsRising rows → is_some (row_at p.kind p.institution p.key rows) ≡ true → FoundRow p rows
 standing p rows rising there =
     let found = inside (row_at p.kind p.institution p.key rows) there in
     let one = one_at p rows found.0 rising found.1 in

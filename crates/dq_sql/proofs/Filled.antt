@@ -13,7 +13,7 @@ use Rattle.dq_tables.specs.Finding.{IsFree}
 use Rattle.dq_tables.proofs.InOrder.{rising_at, located_free}
 use Rattle.dq_tables.proofs.Edits.{inserts}
 use Rattle.dq_sql.specs.Tie.{HasRows}
-use Rattle.dq_sql.specs.Writing.{AddsRow, Went}
+use Rattle.dq_sql.specs.Writing.{AddsRow, StatementRan}
 use Rattle.dq_sql.specs.Filling.{AddsRows}
 use Rattle.dq_sql.proofs.NewStore.{keeps_then}
 
@@ -70,7 +70,7 @@ pub record HasPut (old new : State) (rows : List Row) : Type 0 where
 
 module _ (old mid new : State) (rows : List Row) (i : ℕ) (row : Row) (within : i < length rows) (is : row ≡ get_or rows i row) (rising : IsRising rows) where
   -- one more that was put
-  pub put_next : HasPut old mid (take i rows) → (HasCleanDisk new → IsTrue mid.in_transaction → Went mid new × AddsRow mid.now new.now row)
+  pub put_next : HasPut old mid (take i rows) → (HasCleanDisk new → IsTrue mid.in_transaction → StatementRan mid new × AddsRow mid.now new.now row)
       → (HasCleanDisk new → IsTrue mid.in_transaction → KeepsCommit mid new) → Survives mid new (λ _. ⊥) → HasPut old new (take (i + 1) rows)
   put_next had went kept survives =
       let early : HasCleanDisk new → HasCleanDisk mid = λ clean. omega (arith, survives.clean) in

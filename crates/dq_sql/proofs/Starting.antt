@@ -6,7 +6,7 @@ use Rattle.sqlite.proofs.StateLemmas.{survives_then}
 use Rattle.dq_tables.specs.Rows.{Start, after_edit, after_edits}
 use Rattle.dq_tables.proofs.Soundness.{start_more}
 use Rattle.dq_sql.specs.Tie.{HasRows}
-use Rattle.dq_sql.specs.Writing.{Starts, StartsEach, Went}
+use Rattle.dq_sql.specs.Writing.{Starts, StartsEach, StatementRan}
 use Rattle.dq_sql.proofs.NewStore.{keeps_then}
 use Rattle.dq_sql.proofs.Written.{went_further}
 
@@ -18,7 +18,7 @@ pub record HasStarted (old new : State) (institution : List ℕ) (keys : List (L
   pub survives : Survives old new (λ _. ⊥)
   pub kept : Untouched old new
   pub inside : HasCleanDisk new → IsTrue old.in_transaction → IsTrue new.in_transaction
-  pub done : HasCleanDisk new → IsTrue old.in_transaction → IsTrue old.is_open → Went old new × StartsEach old.now new.now institution keys
+  pub done : HasCleanDisk new → IsTrue old.in_transaction → IsTrue old.is_open → StatementRan old new × StartsEach old.now new.now institution keys
 
 starts_more : (d m e : Database) (institution : List ℕ) (keys : List (List ℕ)) (i : ℕ) (key : List ℕ) → i < length keys → get_or keys i key ≡ key
     → StartsEach d m institution (take i keys) → Starts m e institution key → StartsEach d e institution (take (i + 1) keys)
@@ -38,7 +38,7 @@ module _ (old mid new : State) (institution : List ℕ) (keys : List (List ℕ))
 
 pub one_started : (old mid new : State) (institution : List ℕ) (keys : List (List ℕ)) (i : ℕ) (key : List ℕ) → i < length keys → get_or keys i key ≡ key
     → HasStarted old mid institution (take i keys) → Survives mid new (λ _. ⊥) → Untouched mid new
-    → (HasCleanDisk new → IsTrue mid.in_transaction → Went mid new × Starts mid.now new.now institution key)
+    → (HasCleanDisk new → IsTrue mid.in_transaction → StatementRan mid new × Starts mid.now new.now institution key)
     → HasStarted old new institution (take (i + 1) keys)
 one_started old mid new institution keys i key within here before survives kept done =
     let early = λ (clean : HasCleanDisk new). let h : HasCleanDisk mid = omega (arith, survives.clean, clean) in h in

@@ -58,7 +58,7 @@ pub record TransactionGoesOn (old new : State) : Type 0 where
   pub inside : IsTrue new.in_transaction
 
 -- A statement was run in it.
-pub record Went (old new : State) : Type 0 where
+pub record StatementRan (old new : State) : Type 0 where
   pub is_open : IsTrue new.is_open
   pub on : TransactionGoesOn old new
 

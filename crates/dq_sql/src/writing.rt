@@ -6,7 +6,7 @@ ghost use Rattle.sqlite.specs.Values.{or_null};
 ghost use Rattle.sqlite_value.specs.declared.value.Value.TheVariants.{Int, Blob};
 ghost use Rattle.dq_sql.specs.Cells.{patient_cell, day_cell, columns_of};
 ghost use Rattle.dq_sql.specs.Writing.{AddsRow, AddsIf, Replaces, Removes, Starts, StartsEach, MakesChange};
-ghost use Rattle.dq_sql.specs.Writing.{TransactionGoesOn, Went, IsMade, IsUndone, Commits};
+ghost use Rattle.dq_sql.specs.Writing.{TransactionGoesOn, StatementRan, IsMade, IsUndone, Commits};
 ghost use Rattle.dq_tables.specs.declared.change.Change.TheVariants.{Stored, StepAdded};
 
 use crate::cells::Cells;
@@ -65,7 +65,7 @@ pub(crate) fn put<S: Alter>(
     ensures same_reference { tx.new.conn.ghost_name ≡ tx.old.conn.ghost_name }
     ensures done { HasCleanDisk (state S.Store tx.new.conn.now)
         → IsTrue (state S.Store tx.old.conn.now).in_transaction
-        → OnOk result (Went (state S.Store tx.old.conn.now) (state S.Store tx.new.conn.now)
+        → OnOk result (StatementRan (state S.Store tx.old.conn.now) (state S.Store tx.new.conn.now)
         × AddsRow (state S.Store tx.old.conn.now).now (state S.Store tx.new.conn.now).now row.now) }
     ensures kept { HasCleanDisk (state S.Store tx.new.conn.now)
         → IsTrue (state S.Store tx.old.conn.now).in_transaction
@@ -91,7 +91,7 @@ fn replace<S: Alter>(
     ensures same_reference { tx.new.conn.ghost_name ≡ tx.old.conn.ghost_name }
     ensures done { HasCleanDisk (state S.Store tx.new.conn.now)
         → IsTrue (state S.Store tx.old.conn.now).in_transaction
-        → OnOk result (Went (state S.Store tx.old.conn.now) (state S.Store tx.new.conn.now)
+        → OnOk result (StatementRan (state S.Store tx.old.conn.now) (state S.Store tx.new.conn.now)
         × Replaces (state S.Store tx.old.conn.now).now (state S.Store tx.new.conn.now).now
         row.now) }
     ensures kept { HasCleanDisk (state S.Store tx.new.conn.now)
@@ -119,7 +119,7 @@ fn remove<'a, S: Alter>(
     ensures same_reference { tx.new.conn.ghost_name ≡ tx.old.conn.ghost_name }
     ensures done { HasCleanDisk (state S.Store tx.new.conn.now)
         → IsTrue (state S.Store tx.old.conn.now).in_transaction
-        → OnOk result (Went (state S.Store tx.old.conn.now) (state S.Store tx.new.conn.now)
+        → OnOk result (StatementRan (state S.Store tx.old.conn.now) (state S.Store tx.new.conn.now)
         × Removes (state S.Store tx.old.conn.now).now (state S.Store tx.new.conn.now).now kind
         institution.now key.now) }
     ensures kept { HasCleanDisk (state S.Store tx.new.conn.now)
@@ -151,7 +151,7 @@ fn start<'a, S: Alter>(
     ensures same_reference { tx.new.conn.ghost_name ≡ tx.old.conn.ghost_name }
     ensures done { HasCleanDisk (state S.Store tx.new.conn.now)
         → IsTrue (state S.Store tx.old.conn.now).in_transaction
-        → OnOk result (Went (state S.Store tx.old.conn.now) (state S.Store tx.new.conn.now)
+        → OnOk result (StatementRan (state S.Store tx.old.conn.now) (state S.Store tx.new.conn.now)
         × Starts (state S.Store tx.old.conn.now).now (state S.Store tx.new.conn.now).now
         institution.now key.now) }
     ensures kept { HasCleanDisk (state S.Store tx.new.conn.now)
@@ -184,7 +184,7 @@ fn start_each<S: Alter>(
     ensures done { HasCleanDisk (state S.Store tx.new.conn.now)
         → IsTrue (state S.Store tx.old.conn.now).in_transaction
         → IsTrue (state S.Store tx.old.conn.now).is_open
-        → OnOk result (Went (state S.Store tx.old.conn.now) (state S.Store tx.new.conn.now)
+        → OnOk result (StatementRan (state S.Store tx.old.conn.now) (state S.Store tx.new.conn.now)
         × StartsEach (state S.Store tx.old.conn.now).now (state S.Store tx.new.conn.now).now
         institution.now keys.now) }
     ensures kept { HasCleanDisk (state S.Store tx.new.conn.now)
@@ -209,7 +209,7 @@ fn put_step<S: Alter>(
     ensures same_reference { tx.new.conn.ghost_name ≡ tx.old.conn.ghost_name }
     ensures done { HasCleanDisk (state S.Store tx.new.conn.now)
         → IsTrue (state S.Store tx.old.conn.now).in_transaction
-        → OnOk result (Went (state S.Store tx.old.conn.now) (state S.Store tx.new.conn.now)
+        → OnOk result (StatementRan (state S.Store tx.old.conn.now) (state S.Store tx.new.conn.now)
         × MakesChange (state S.Store tx.old.conn.now).now (state S.Store tx.new.conn.now).now
         (StepAdded step.now keys.now)) }
     ensures kept { HasCleanDisk (state S.Store tx.new.conn.now)
@@ -257,7 +257,7 @@ fn put_stored<S: Alter>(
     ensures same_reference { tx.new.conn.ghost_name ≡ tx.old.conn.ghost_name }
     ensures done { HasCleanDisk (state S.Store tx.new.conn.now)
         → IsTrue (state S.Store tx.old.conn.now).in_transaction
-        → OnOk result (Went (state S.Store tx.old.conn.now) (state S.Store tx.new.conn.now)
+        → OnOk result (StatementRan (state S.Store tx.old.conn.now) (state S.Store tx.new.conn.now)
         × MakesChange (state S.Store tx.old.conn.now).now (state S.Store tx.new.conn.now).now
         (Stored study.now series.now image.now)) }
     ensures kept { HasCleanDisk (state S.Store tx.new.conn.now)
@@ -280,7 +280,7 @@ fn make<S: Alter>(
     ensures same_reference { tx.new.conn.ghost_name ≡ tx.old.conn.ghost_name }
     ensures done { HasCleanDisk (state S.Store tx.new.conn.now)
         → IsTrue (state S.Store tx.old.conn.now).in_transaction
-        → OnOk result (Went (state S.Store tx.old.conn.now) (state S.Store tx.new.conn.now)
+        → OnOk result (StatementRan (state S.Store tx.old.conn.now) (state S.Store tx.new.conn.now)
         × MakesChange (state S.Store tx.old.conn.now).now (state S.Store tx.new.conn.now).now
         change.now) }
     ensures kept { HasCleanDisk (state S.Store tx.new.conn.now)

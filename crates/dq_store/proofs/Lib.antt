@@ -2,7 +2,7 @@ pub mod Records
 mod Levels
 mod Sieved
 mod Sifted
-mod Standing
+mod LevelAttributes
 pub mod Fitting
 pub mod Outcomes
 pub mod Staying

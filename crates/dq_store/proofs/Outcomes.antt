@@ -13,7 +13,7 @@ use Rattle.dq_config.specs.Limits.{Limits}
 use Rattle.dq_tables.specs.Rows.{Record, Edit}
 use Rattle.dq_tables.specs.Serving.{first_refusal, refusal_or}
 use Rattle.dq_dimse.specs.Limits.{store_limit}
-use Rattle.dq_store.specs.declared.keeping.KeptRows.{KeptRows}
+use Rattle.dq_store.specs.declared.kept_rows.KeptRows.{KeptRows}
 use Rattle.dq_store.specs.Storing.{Instance, Kept, kept_among, instance_in, names_instance, keeps_too_much, instance_refusals, storage_refusals, stored_status, stored_edits, store_outcome}
 use Rattle.dq_store.specs.Views.{rows_among, unless_refused, records_kept, instance_stored, kept_status}
 use Rattle.dq_store.proofs.Records.{kept_is}

@@ -3,7 +3,7 @@ use Rattle.std.proofs.Common.{◌≡◌, ℕ, true, false, leb, List, [], Option
 use Rattle.std.specs.Option.{option_map}
 use Rattle.dq_tables.specs.declared.row.Row.{Row}
 use Rattle.dq_tables.specs.Rows.{Record, row_of, record_of}
-use Rattle.dq_store.specs.declared.keeping.KeptRows.{KeptRows}
+use Rattle.dq_store.specs.declared.kept_rows.KeptRows.{KeptRows}
 use Rattle.dq_store.specs.Views.{rows_among, records_kept}
 use Rattle.dq_store.specs.Storing.{Instance, kept_among, finds_no_room, stored_edits}
 

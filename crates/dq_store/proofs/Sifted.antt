@@ -21,7 +21,7 @@ use Rattle.dq_dimse.specs.declared.command.Body.TheVariants.{Octets, Sifted}
 use Rattle.dq_dimse.specs.declared.command.Command.{Command}
 use Rattle.dq_dimse.specs.declared.command.Message.{Message as HeldMessage}
 use Rattle.dq_vr.specs.StudyRoot.{kept_attributes}
-use Rattle.dq_dimse.specs.Holding.{BodyStandsFor, StandsFor, is_sifted, is_stored}
+use Rattle.dq_dimse.specs.Holding.{BodyRefines, Refines, is_sifted, is_stored}
 use Rattle.dq_dimse.specs.Messages.{store_limit, other_limit}
 use Rattle.dq_dimse.specs.Received.{Message}
 use Rattle.dq_dimse.specs.Receiving.{is_over}
@@ -45,7 +45,7 @@ limit_most : (stored : Bool) → (if stored then store_limit else other_limit) �
 limit_most true = omega arith
 limit_most false = omega arith
 
-module _ (syntax : Syntax) (held : HeldMessage) (m : Message) (h : StandsFor syntax held m) where
+module _ (syntax : Syntax) (held : HeldMessage) (m : Message) (h : Refines syntax held m) where
   -- octets of a C-STORE that are held are none, since it passed its limit
   pub octets_over : (octets : List ℕ) → is_stored held.command ≡ true → held.body ≡ Octets octets → is_over store_limit m ≡ true
   octets_over octets stored is =
@@ -65,7 +65,7 @@ module _ (syntax : Syntax) (held : HeldMessage) (m : Message) (h : StandsFor syn
         ap (λ (b : Bool). b || nat_lt store_limit (length m.octets)) not_past ∙ le-ltb store_limit (length m.octets) short
 
     pub is_answer : IsSifted syntax kept_attributes m.octets answer
-    is_answer = subst (λ (b : Body). BodyStandsFor syntax b m.octets) is h.body
+    is_answer = subst (λ (b : Body). BodyRefines syntax b m.octets) is h.body
 
 faulty_in : (syntax : Syntax) (octets : List ℕ) (fault : ReadFault) → IsSifted syntax kept_attributes octets (Fault fault)
     → (first : ReadFault) × IsFaulty syntax octets first
@@ -100,7 +100,7 @@ kept_in syntax octets kept other (inl x) =
     }
 kept_in syntax octets kept other (inr x) = (let no = x.2 in absurd cc)
 
-module _ (limits : Limits) (records : List Record) (syntax : Syntax) (held : HeldMessage) (m : Message) (h : StandsFor syntax held m) where
+module _ (limits : Limits) (records : List Record) (syntax : Syntax) (held : HeldMessage) (m : Message) (h : Refines syntax held m) where
   pub stored_unread : (answer : Answer) (fault : ReadFault) → held.body ≡ Sifted answer → answer ≡ Fault fault
       → ((first : ReadFault) → IsFaulty syntax m.octets first → reading syntax m.octets ≡ Err first)
       → store_outcome limits records m syntax ≡ (0xC000, [])

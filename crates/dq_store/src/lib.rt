@@ -2,8 +2,8 @@
 #![tactic(auto)]
 
 mod instance;
-mod keeping;
-mod kept;
+mod kept_instance;
+mod kept_rows;
 pub mod laws;
 mod storing;
 

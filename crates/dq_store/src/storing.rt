@@ -2,12 +2,12 @@
 ghost use Rattle.std.specs.Prelude.{◌≡◌, true, List, IfOk, OnOk};
 ghost use Rattle.dq_dataset.specs.declared.header.Syntax.TheVariants.{Explicit};
 ghost use Rattle.dq_dataset.specs.Canonical.{HasLengths};
-ghost use Rattle.dq_dimse.specs.Holding.{StandsFor, is_stored};
+ghost use Rattle.dq_dimse.specs.Holding.{Refines, is_stored};
 ghost use Rattle.dq_dimse.specs.Received.{Message as Received};
 ghost use Rattle.dq_config.specs.Limits.{limits_of};
 ghost use Rattle.dq_tables.specs.declared.row.Row.{Row as TheRow};
 ghost use Rattle.dq_tables.specs.Rows.{IsRising, of};
-ghost use Rattle.dq_tables.specs.Keeping.{Goes, IsSettled};
+ghost use Rattle.dq_tables.specs.Keeping.{HealthAfter, IsSettled};
 ghost use Rattle.dq_tables.specs.Serving.{Serves};
 ghost use Rattle.dq_archive.specs.Archives.{Decides};
 ghost use Rattle.dq_archive.specs.Deciding.{edits_in, answer_and_edits, FitsIf, IsOwn};
@@ -17,8 +17,8 @@ ghost use Rattle.dq_store.specs.Storing.{study_record, series_record};
 ghost use Rattle.dq_store.specs.Views.{instance_of, instance_stored, records_kept, kept_status, HasUids, new_if, new_rows};
 
 use crate::instance::Instance;
-use crate::keeping::KeptRows;
-use crate::kept::{kept_unless_refused, stored_status};
+use crate::kept_instance::{kept_unless_refused, stored_status};
+use crate::kept_rows::KeptRows;
 use dq_archive::{Added, Archive, Decision};
 use dq_config::Institution;
 use dq_dataset::laws::{editing_law, fault_law, spelling_law, written_law};
@@ -39,10 +39,10 @@ pub fn store<T: Tables>(
 ) -> Result<u16, TableFault>
     requires { is_stored message.now.command ≡ true }
     // Whatever message this one stands for.
-    ensures serves { (sent : Received) → StandsFor syntax message.now sent →
+    ensures serves { (sent : Received) → Refines syntax message.now sent →
         Serves (T.state tables.old) (T.state tables.new) institution.now.name
         (λ records. store_outcome (limits_of institution.now) records sent syntax) result }
-    ensures goes { Goes (T.state tables.old) (T.state tables.new) result }
+    ensures goes { HealthAfter (T.state tables.old) (T.state tables.new) result }
     ensures settles { (T.state tables.new).honest →
         OnOk result (IsSettled (T.state tables.old) → IsSettled (T.state tables.new)) }
 {
@@ -60,10 +60,10 @@ pub fn store_telling<T: Tables>(
 ) -> Result<u16, TableFault>
     requires { is_stored message.now.command ≡ true }
     // Whatever message this one stands for.
-    ensures serves { (sent : Received) → StandsFor syntax message.now sent →
+    ensures serves { (sent : Received) → Refines syntax message.now sent →
         Serves (T.state tables.old) (T.state tables.new) institution.now.name
         (λ records. store_outcome (limits_of institution.now) records sent syntax) result }
-    ensures goes { Goes (T.state tables.old) (T.state tables.new) result }
+    ensures goes { HealthAfter (T.state tables.old) (T.state tables.new) result }
     ensures settles { (T.state tables.new).honest →
         OnOk result (IsSettled (T.state tables.old) → IsSettled (T.state tables.new)) }
     ensures told { (T.state tables.new).honest → OnOk result

@@ -2,7 +2,7 @@
 use Rattle.std.proofs.Common.{◌≡◌, ℕ, List, [], Result, Ok, Err, ap, arith}
 use Rattle.dq_tables.specs.declared.fault.TableFault.{TableFault}
 use Rattle.dq_tables.specs.Rows.{Record, Edit, of, by, after}
-use Rattle.dq_tables.specs.Keeping.{State, Goes, Reads, Writes}
+use Rattle.dq_tables.specs.Keeping.{State, HealthAfter, Reads, Writes}
 use Rattle.dq_tables.specs.Serving.{Serves}
 
 -- an error in place of an answer
@@ -19,8 +19,8 @@ unfolding fault_of
 same_error A B e f h = ap (λ (x : TableFault). refused B x) (ap (fault_of {A = A} e) h)
 
 -- a call and then another
-pub goes_then : {A B : Type 0} (old mid new : State) (x : A) (r : Result B TableFault) → Goes old mid (Ok x) → Goes mid new r
-    → Goes old new r
+pub goes_then : {A B : Type 0} (old mid new : State) (x : A) (r : Result B TableFault) → HealthAfter old mid (Ok x) → HealthAfter mid new r
+    → HealthAfter old new r
 goes_then old mid new x r first second = grind arith
 
 -- a call that reads and then another
@@ -28,10 +28,10 @@ pub reads_then : {A B : Type 0} (old mid new : State) (x : A) (r : Result B Tabl
     → Reads mid new r → Reads old new r
 reads_then old mid new x r first second = grind (arith, goes_then)
 
-goes_refused : {A B : Type 0} (old new : State) (e : TableFault) → Goes old new (refused A e) → Goes old new (refused B e)
+goes_refused : {A B : Type 0} (old new : State) (e : TableFault) → HealthAfter old new (refused A e) → HealthAfter old new (refused B e)
 goes_refused {A} {B} old new e goes = grind (arith, same_error)
 
-goes_right : {A B : Type 0} (old new : State) (x : A) (y : B) → Goes old new (Ok x) → Goes old new (Ok y)
+goes_right : {A B : Type 0} (old new : State) (x : A) (y : B) → HealthAfter old new (Ok x) → HealthAfter old new (Ok y)
 goes_right old new x y goes = grind arith
 
 -- a read that was answered, or refused, with another value of the answer

@@ -19,7 +19,7 @@ pub record IsSettled (it : State) : Type 0 where
 
 -- What was not honest does not become so. Store is answered only where a failure is there
 -- afterwards, and a failure comes with Store alone and stays.
-pub record Goes {Answer : Type 0} (old new : State) (result : Result Answer TableFault)
+pub record HealthAfter {Answer : Type 0} (old new : State) (result : Result Answer TableFault)
     : Type 0 where
   pub was_honest : new.honest → old.honest
   pub told : result ≡ Err Store → new.failed ≡ true
@@ -29,14 +29,14 @@ pub record Goes {Answer : Type 0} (old new : State) (result : Result Answer Tabl
 -- a call that reads
 pub record Reads {Answer : Type 0} (old new : State) (result : Result Answer TableFault)
     : Type 0 where
-  pub goes : Goes old new result
+  pub goes : HealthAfter old new result
   pub same : new.honest → new.rows ≡ old.rows
   pub crash : new.honest → (r : List Row) → new.may_leave r → old.may_leave r
 
 -- a call that changes the rows, whole or not at all
 pub record Writes {Answer : Type 0} (old new : State) (changed : List Row)
     (result : Result Answer TableFault) : Type 0 where
-  pub goes : Goes old new result
+  pub goes : HealthAfter old new result
   pub done : new.honest → OnOk result (new.rows ≡ changed)
   pub same : new.honest → OnErr result (new.rows ≡ old.rows)
   pub settles : new.honest → OnOk result (IsSettled new)

@@ -4,7 +4,7 @@ use Rattle.std.specs.Prelude.{◌≡◌, ℕ, Bool, List, [], ◌∷◌, Option,
 use Rattle.dq_tables.specs.declared.fault.TableFault.{TableFault}
 use Rattle.dq_tables.specs.declared.row.Row.{Row}
 use Rattle.dq_tables.specs.Rows.{Record, Edit, of, by, after}
-use Rattle.dq_tables.specs.Keeping.{State, IsSettled, Goes}
+use Rattle.dq_tables.specs.Keeping.{State, IsSettled, HealthAfter}
 
 -- The call answers as `does` says of the institution's records and makes its edits, all of them, or
 -- is refused and makes none. With a crash in the call, or a fault, either the rows are left that
@@ -12,7 +12,7 @@ use Rattle.dq_tables.specs.Keeping.{State, IsSettled, Goes}
 pub record Serves {Answer : Type 0} (old new : State) (institution : List ℕ)
     (does : List Record → Answer × List Edit)
     (result : Result Answer TableFault) : Type 0 where
-  pub goes : Goes old new result
+  pub goes : HealthAfter old new result
   pub answered : new.honest → IfOk result (λ answer. answer ≡ (does (of institution old.rows)).0)
   pub done : new.honest → OnOk result
       (new.rows ≡ after (by institution (does (of institution old.rows)).1) old.rows)

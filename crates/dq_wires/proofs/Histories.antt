@@ -5,7 +5,7 @@ use Rattle.dq_config.specs.declared.config.Institution.{Institution}
 use Rattle.dq_tables.specs.Keeping.{State}
 use Rattle.dq_core.specs.declared.event.Event.{Event}
 use Rattle.dq_core.specs.Shared.{World, turn, world_after_turn, world_from, first_world, world_after, replies_from}
-use Rattle.dq_core.specs.Standing.{Standing}
+use Rattle.dq_core.specs.ServerView.{ServerView}
 use Rattle.dq_wires.specs.Steps.{Step, Runs, events_of, replies_of}
 use Rattle.dq_wires.specs.Steps.Step.{Answered, Asked}
 use Rattle.dq_wires.specs.Stepping.{Moves}
@@ -17,11 +17,11 @@ world-next institutions world [] event = refl
 world-next institutions world (e ∷ events) event = world-next institutions (world_after_turn world (turn institutions world e)) events event
 
 module _ {Tables : Type 0} (state : Tables → State) where
-  pub runs-serve : (old new : Standing Tables) (steps : List Step) → Runs (Moves state) old new steps → Serves state old new steps
+  pub runs-serve : (old new : ServerView Tables) (steps : List Step) → Runs (Moves state) old new steps → Serves state old new steps
   runs-serve old new [] same = record {
     stands = λ rows events stood h. rw (same, append-nil events) stood;
     replied = λ rows events stood h. refl;
-    institutions = ap (λ (x : Standing Tables). x.institutions) same;
+    institutions = ap (λ (x : ServerView Tables). x.institutions) same;
     was_honest = λ h. rw same at h;
     settles = λ h s. rw same s;
   }

@@ -28,7 +28,7 @@ use Rattle.dq_wires.proofs.Cutting.{Joins, OfRequest, Adds, Formed, formed, form
 use Rattle.dq_core.specs.Runs.{IsRun}
 use Rattle.dq_core.specs.Stepping.{IsPartOf, MayLeaveAfter}
 use Rattle.dq_core.specs.Renumbering.{KeepsOrder, with_other_number, renumbered_reply}
-use Rattle.dq_core.specs.Standing.{Standing}
+use Rattle.dq_core.specs.ServerView.{ServerView}
 use Rattle.dq_wires.specs.Held.{reply_octets}
 use Rattle.dq_wires.specs.Steps.{Step, events_of, replies_of}
 use Rattle.dq_wires.specs.Steps.Step.{Answered, Asked}
@@ -163,7 +163,7 @@ replies-more institutions world [] later = refl
 replies-more institutions world (e ∷ events) later =
     let t = turn institutions world e in ap (λ rs. t.reply ∷ rs) (replies-more institutions (world_after_turn world t) events later)
 
-module _ {Tables : Type 0} (state : Tables → State) {rows : List Row} {first last : Standing Tables} {acts : List Act} {cut : Cut}
+module _ {Tables : Type 0} (state : Tables → State) {rows : List Row} {first last : ServerView Tables} {acts : List Act} {cut : Cut}
     (served : Served state rows first last acts cut) (honest : (state last.tables).honest) where
   abbrev given : List Reply
   given = replies_of (served_steps acts cut)
@@ -179,7 +179,7 @@ module _ {Tables : Type 0} (state : Tables → State) {rows : List Row} {first l
       serves.settles honest settled
 
   -- a fault at an event after it
-  pub served-fails : {new : Standing Tables} {event : Event} {fault : Fault} → Fails state last new event fault → (state new.tables).honest
+  pub served-fails : {new : ServerView Tables} {event : Event} {fault : Fault} → Fails state last new event fault → (state new.tables).honest
       → IsSettled (state first.tables)
       → (let world = world_after first.institutions rows (served_events acts cut) in
       IsPartOf (turn first.institutions world event).operations world.rows (state new.tables).rows (state new.tables).may_leave)
@@ -239,7 +239,7 @@ fronts-join xs ys zs (a, e) (b, f) = (a ++ b, sym (append_assoc xs a b) ∙ ap (
 
 -- What is written on a connection in a serving is the front of what its owner's server alone answers on it, however its octets are cut.
 module _ (joins : Joins) (of_request : OfRequest) (adds : Adds) {Tables : Type 0} (state : Tables → State) {rows : List Row}
-    {first last : Standing Tables} {acts : List Act} {cut : Cut} (served : Served state rows first last acts cut)
+    {first last : ServerView Tables} {acts : List Act} {cut : Cut} (served : Served state rows first last acts cut)
     (honest : (state last.tables).honest) (later : List Event) (i : Institution) (anew : ℕ → ℕ) (order : KeepsOrder anew) where
   abbrev events : List Event
   events = served_events acts cut ++ later

@@ -9,9 +9,9 @@ use Rattle.dq_core.specs.declared.event.Reply.{Reply}
 use Rattle.dq_core.specs.Connections.{is_pending}
 use Rattle.dq_core.specs.Shared.{turn, world_after}
 use Rattle.dq_core.specs.Histories.{newest_after}
-use Rattle.dq_core.specs.Standing.{Standing, StandsFor}
+use Rattle.dq_core.specs.ServerView.{ServerView, Refines}
 use Rattle.dq_core.specs.Looking.{Looked}
-use Rattle.dq_core.proofs.Going.{goes-then}
+use Rattle.dq_core.proofs.TableCalls.{goes-then}
 use Rattle.dq_core.proofs.Looking.{looked-none, looked-then}
 use Rattle.dq_wires.specs.Steps.{Step, Runs}
 use Rattle.dq_wires.specs.Steps.Step.{Answered, Asked}
@@ -22,7 +22,7 @@ use Rattle.dq_wires.proofs.Histories.{runs-serve}
 use Rattle.dq_wires.proofs.Rounding.{runs-then}
 
 module _ {Tables : Type 0} {state : Tables → State} where
-  pub stepped-after : {old mid new : Standing Tables} {event : Event} {reply : Reply}
+  pub stepped-after : {old mid new : ServerView Tables} {event : Event} {reply : Reply}
       → Looked state old mid → Stepped state mid new event reply → Stepped state old new event reply
   stepped-after {event = event} looked stepped = record {
     replied = λ rows events stood honest.
@@ -37,15 +37,15 @@ module _ {Tables : Type 0} {state : Tables → State} where
   }
 
   -- a question, as it is answered
-  pub asks-so : {server : Standing Tables} (number asked : ℕ) (pending said : Bool) → asked ≡ number → said ≡ pending
-      → ((rows : List Row) (events : List Event) → StandsFor state rows server events → said ≡ is_pending asked (world_after server.institutions rows events).connections)
+  pub asks-so : {server : ServerView Tables} (number asked : ℕ) (pending said : Bool) → asked ≡ number → said ≡ pending
+      → ((rows : List Row) (events : List Event) → Refines state rows server events → said ≡ is_pending asked (world_after server.institutions rows events).connections)
       → Asks state server server number pending
   asks-so {server} number asked pending said at so told = record {
     looked = looked-none server;
     told = λ rows events stood honest. rw (so, at) at (told rows events stood);
   }
 
-  asks-after : {old mid new : Standing Tables} {number : ℕ} {pending : Bool}
+  asks-after : {old mid new : ServerView Tables} {number : ℕ} {pending : Bool}
       → Looked state old mid → Asks state mid new number pending → Asks state old new number pending
   asks-after {number = number} looked asks = record {
     looked = looked-then looked asks.looked;
@@ -54,21 +54,21 @@ module _ {Tables : Type 0} {state : Tables → State} where
         ∙ ap (λ (i : List Institution). is_pending number (world_after i rows events).connections) looked.institutions;
   }
 
-  moves-after : (old mid new : Standing Tables) (s : Step) → Looked state old mid → Moves state mid new s → Moves state old new s
+  moves-after : (old mid new : ServerView Tables) (s : Step) → Looked state old mid → Moves state mid new s → Moves state old new s
   moves-after old mid new (Answered event reply) looked moves = stepped-after looked moves
   moves-after old mid new (Asked number pending) looked moves = asks-after looked moves
 
   -- no step, nor a look
-  pub comes-none : (server : Standing Tables) → ComesBy state server server []
+  pub comes-none : (server : ServerView Tables) → ComesBy state server server []
   comes-none server = record { last = server; runs = refl; looks = looked-none server }
 
   -- a look more
-  pub comes-looking : {first mid next : Standing Tables} {steps : List Step}
+  pub comes-looking : {first mid next : ServerView Tables} {steps : List Step}
       → ComesBy state first mid steps → Looked state mid next → ComesBy state first next steps
   comes-looking comes looked = record { last = comes.last; runs = comes.runs; looks = looked-then comes.looks looked }
 
   -- more steps: the looks before them are part of the first
-  pub comes-more : (first mid next : Standing Tables) (steps more : List Step)
+  pub comes-more : (first mid next : ServerView Tables) (steps more : List Step)
       → ComesBy state first mid steps → Runs (Moves state) mid next more → ComesBy state first next (steps ++ more)
   comes-more first mid next steps [] comes same =
       record { last = comes.last; runs = rw (append-nil steps) comes.runs; looks = rw same comes.looks }
@@ -78,7 +78,7 @@ module _ {Tables : Type 0} {state : Tables → State} where
     looks = looked-none next;
   }
 
-  pub comes-serve : (old new : Standing Tables) (steps : List Step) → ComesBy state old new steps → Serves state old new steps
+  pub comes-serve : (old new : ServerView Tables) (steps : List Step) → ComesBy state old new steps → Serves state old new steps
   comes-serve old new steps comes =
       let serves : Serves state old comes.last steps = runs-serve state old comes.last steps comes.runs in
       let looks = comes.looks in

@@ -11,7 +11,7 @@ use Rattle.dq_core.specs.declared.event.Event.{Event}
 use Rattle.dq_core.specs.declared.event.Event.TheVariants.{Open, Piece, End, Pull, Schedule, Withdraw}
 use Rattle.dq_core.specs.declared.event.Reply.{Reply}
 use Rattle.dq_core.specs.Histories.{opened_numbers}
-use Rattle.dq_core.specs.Standing.{Standing, StandsFor}
+use Rattle.dq_core.specs.ServerView.{ServerView, Refines}
 use Rattle.dq_wires.specs.declared.calls.Call.{Call}
 use Rattle.dq_wires.specs.declared.looping.Line.{Line}
 use Rattle.dq_wires.specs.declared.looping.Wanted.{Wanted}
@@ -115,8 +115,8 @@ module _ {Tables : Type 0} {state : Tables → State} where
 
   -- a serving that begins with the turner
   pub plays-whole : {Wires : Type 0} (log : Wires → Option (List Call)) (wires left : Wires) (old new : Turning Tables) (events : List Event)
-      (rows : List Row) → StandsFor state rows old.server [] → old.hold ≡ nothing_held → PlaysOn state (log wires) (log left) old new events
-      → (acts : List Act) × (left : Wires) × (last : Standing Tables) × (hold : Hold)
+      (rows : List Row) → Refines state rows old.server [] → old.hold ≡ nothing_held → PlaysOn state (log wires) (log left) old new events
+      → (acts : List Act) × (left : Wires) × (last : ServerView Tables) × (hold : Hold)
       × ArePlayed [] nothing_held events acts × Serving state rows (log wires) (log left) old.server last hold acts
   plays-whole log wires left old new events rows begins held (acts, played, acted) = (
     acts,

@@ -11,7 +11,7 @@ use Rattle.dq_core.specs.declared.event.Event.TheVariants.{Open, Piece, End, Pul
 use Rattle.dq_core.specs.declared.event.Reply.{Reply}
 use Rattle.dq_core.specs.declared.fault.Fault.{Fault}
 use Rattle.dq_core.specs.Histories.{is_above, rises_from, is_well_formed_history}
-use Rattle.dq_core.specs.Standing.{Standing, StandsFor}
+use Rattle.dq_core.specs.ServerView.{ServerView, Refines}
 use Rattle.dq_core.specs.Looking.{Looked}
 use Rattle.dq_wires.specs.declared.calls.Call.{Call}
 use Rattle.dq_wires.specs.declared.fault.TurnFault.{TurnFault}
@@ -60,12 +60,12 @@ turned-steps [] = refl
 turned-steps (t ∷ turns) = ap (λ steps. turn_steps t ++ steps) (turned-steps turns)
 
 module _ {Tables : Type 0} (state : Tables → State) (rows : List Row) where
-  pub serving-begins : (log : Option (List Call)) (server : Standing Tables) → StandsFor state rows server []
+  pub serving-begins : (log : Option (List Call)) (server : ServerView Tables) → Refines state rows server []
       → Serving state rows log log server server nothing_held []
   serving-begins log server begins =
       record { begins = begins; are = tt; leaves = refl; calls = logs-none log; steps = comes-none server }
 
-  module _ (before now after : Option (List Call)) (first mid next : Standing Tables) (hold to : Hold) (acts : List Act) where
+  module _ (before now after : Option (List Call)) (first mid next : ServerView Tables) (hold to : Hold) (acts : List Act) where
     -- by acts that are asked of it from there on
     pub serving-more : (more : List Act) → Serving state rows before now first mid hold acts → AreActs hold more → to ≡ after_acts hold more
         → LogsAll now after (flat_map act_calls more) → Runs (Moves state) mid next (flat_map act_steps more)
@@ -87,13 +87,13 @@ module _ {Tables : Type 0} (state : Tables → State) (rows : List Row) where
         serving-more (all_turned went.turns) serving (turned-are hold went.turns went.are) (went.leaves ∙ sym (turned-after hold went.turns))
         (rw (turned-calls went.turns) went.calls) (rw (turned-steps went.turns) went.steps)
 
-  pub serving-order : (before now : Option (List Call)) (first mid next : Standing Tables) (hold : Hold) (acts : List Act) (event : Event) (reply : Reply)
+  pub serving-order : (before now : Option (List Call)) (first mid next : ServerView Tables) (hold : Hold) (acts : List Act) (event : Event) (reply : Reply)
       → Serving state rows before now first mid hold acts → IsOrder event → Stepped state mid next event reply
       → Serving state rows before now first next hold (acts ++ Ordered event reply ∷ [])
   serving-order before now first mid next hold acts event reply serving order goes =
       serving-more before now now first mid next hold hold acts (Ordered event reply ∷ []) serving (order, tt) refl (logs-none now) (next, goes, refl)
 
-  pub serving-look : (before now : Option (List Call)) (first mid next : Standing Tables) (hold : Hold) (acts : List Act)
+  pub serving-look : (before now : Option (List Call)) (first mid next : ServerView Tables) (hold : Hold) (acts : List Act)
       → Serving state rows before now first mid hold acts → Looked state mid next → Serving state rows before now first next hold acts
   serving-look before now first mid next hold acts serving looked = record {
     begins = serving.begins;
@@ -103,13 +103,13 @@ module _ {Tables : Type 0} (state : Tables → State) (rows : List Row) where
     steps = comes-looking serving.steps looked;
   }
 
-  pub serving-whole : (before now : Option (List Call)) (first last : Standing Tables) (hold : Hold) (acts : List Act)
+  pub serving-whole : (before now : Option (List Call)) (first last : ServerView Tables) (hold : Hold) (acts : List Act)
       → Serving state rows before now first last hold acts → Served state rows first last acts NoRoom
   serving-whole before now first last hold acts serving =
       record { begins = serving.begins; are = serving.are; fits = tt; steps = rw (append-nil (flat_map act_steps acts)) serving.steps }
 
-  pub serving-cut : {Fails : Standing Tables → Standing Tables → Event → Fault → Type 0} (before now after : Option (List Call))
-      (first mid new : Standing Tables) (hold : Hold) (acts : List Act) (count : ℕ) (fault : TurnFault)
+  pub serving-cut : {Fails : ServerView Tables → ServerView Tables → Event → Fault → Type 0} (before now after : Option (List Call))
+      (first mid new : ServerView Tables) (hold : Hold) (acts : List Act) (count : ℕ) (fault : TurnFault)
       → Serving state rows before now first mid hold acts → (off : TurnsCut (Moves state) Fails now after mid new hold count fault)
       → Served state rows first off.mid (acts ++ all_turned off.turns) off.cut
   serving-cut before now after first mid new hold acts count fault serving off =
@@ -187,6 +187,6 @@ acts-rise newest h (Ordered event reply ∷ acts) cut opens are fits = by event 
   by (Schedule inst octets) order rest = rest
   by (Withdraw inst id) order rest = rest
 
-pub served-rises : {Tables : Type 0} {state : Tables → State} {rows : List Row} {first last : Standing Tables} {acts : List Act} {cut : Cut}
+pub served-rises : {Tables : Type 0} {state : Tables → State} {rows : List Row} {first last : ServerView Tables} {acts : List Act} {cut : Cut}
     → Served state rows first last acts cut → IsTrue (is_well_formed_history (served_events acts cut))
 served-rises {acts = acts} {cut = cut} served = acts-rise None nothing_held acts cut refl served.are served.fits

@@ -2,8 +2,8 @@
 use Rattle.std.specs.Prelude.{Bool, true, false, if◌then◌else◌, Option, None}
 use Rattle.dq_assoc.specs.declared.classes.Service.{Service}
 use Rattle.dq_assoc.specs.declared.classes.Service.TheVariants.{StudyRootFind, WorklistFind}
-use Rattle.dq_core.specs.declared.notes.Noted.{Noted}
-use Rattle.dq_core.specs.declared.notes.Noted.TheVariants.{Accepted, Rejected, Aborted, Released, Ended, Served}
+use Rattle.dq_core.specs.declared.notes.LogEvent.{LogEvent}
+use Rattle.dq_core.specs.declared.notes.LogEvent.TheVariants.{Accepted, Rejected, Aborted, Released, Ended, Served}
 use Rattle.dq_wires.specs.declared.watched.Opened.{Opened}
 
 abbrev pub is_search : Service → Bool
@@ -12,27 +12,27 @@ is_search WorklistFind = true
 is_search _ = false
 
 -- It has a line of its own: of messages only those on a presentation context of a query.
-abbrev pub has_line : Noted → Bool
+abbrev pub has_line : LogEvent → Bool
 has_line (Accepted institution titles contexts) = true
 has_line (Rejected titles result source reason has_room) = true
 has_line (Aborted party source reason) = true
 has_line Released = false
 has_line Ended = false
-has_line (Served service status answers sought) = is_search service
+has_line (Served service status answers query) = is_search service
 
 -- It ends an association, if one is open.
-abbrev pub ends_association : Noted → Bool
+abbrev pub ends_association : LogEvent → Bool
 ends_association (Accepted institution titles contexts) = false
 ends_association (Rejected titles result source reason has_room) = false
 ends_association (Aborted party source reason) = true
 ends_association Released = true
 ends_association Ended = true
-ends_association (Served service status answers sought) = false
+ends_association (Served service status answers query) = false
 
 -- the association whose end is told
-abbrev pub ended_by : Noted → Option Opened → Option Opened
+abbrev pub ended_by : LogEvent → Option Opened → Option Opened
 ended_by noted opened = if ends_association noted then opened else None
 
 -- the association that is open after the note
-abbrev pub open_after : Noted → Option Opened → Option Opened
+abbrev pub open_after : LogEvent → Option Opened → Option Opened
 open_after noted opened = if ends_association noted then None else opened

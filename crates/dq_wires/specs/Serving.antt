@@ -4,15 +4,15 @@ use Rattle.dq_tables.specs.declared.row.Row.{Row}
 use Rattle.dq_tables.specs.Keeping.{State, IsSettled}
 use Rattle.dq_core.specs.declared.event.Event.{Event}
 use Rattle.dq_core.specs.Shared.{replies_from, world_after}
-use Rattle.dq_core.specs.Standing.{Standing, StandsFor}
+use Rattle.dq_core.specs.ServerView.{ServerView, Refines}
 use Rattle.dq_wires.specs.Steps.{Step, events_of, replies_of}
 
 -- It stands for the history with their events, and their replies are those of the plain server.
-pub record Serves {Tables : Type 0} (state : Tables → State) (old new : Standing Tables)
+pub record Serves {Tables : Type 0} (state : Tables → State) (old new : ServerView Tables)
     (steps : List Step) : Type 0 where
-  pub stands : (rows : List Row) (events : List Event) → StandsFor state rows old events
-      → (state new.tables).honest → StandsFor state rows new (events ++ events_of steps)
-  pub replied : (rows : List Row) (events : List Event) → StandsFor state rows old events
+  pub stands : (rows : List Row) (events : List Event) → Refines state rows old events
+      → (state new.tables).honest → Refines state rows new (events ++ events_of steps)
+  pub replied : (rows : List Row) (events : List Event) → Refines state rows old events
       → (state new.tables).honest
       → replies_of steps
       ≡ replies_from old.institutions (world_after old.institutions rows events)

@@ -6,7 +6,7 @@ use Rattle.dq_tables.specs.Keeping.{State}
 use Rattle.dq_core.specs.declared.event.Event.{Event}
 use Rattle.dq_core.specs.declared.event.Reply.{Reply}
 use Rattle.dq_core.specs.Own.{Output, Octet, Close, is_on_connection, replies_at}
-use Rattle.dq_core.specs.Standing.{Standing, StandsFor}
+use Rattle.dq_core.specs.ServerView.{ServerView, Refines}
 use Rattle.dq_core.specs.Looking.{Looked}
 use Rattle.dq_wires.specs.declared.calls.Call.{Call}
 use Rattle.dq_wires.specs.Logs.{LogsAll}
@@ -57,18 +57,18 @@ all_turned turns = map (λ (t : Turn). Turned t) turns
 
 -- By these steps a server has come from the first to where it is. From the last of them on one has
 -- only looked at it.
-pub record ComesBy {Tables : Type 0} (state : Tables → State) (first now : Standing Tables)
+pub record ComesBy {Tables : Type 0} (state : Tables → State) (first now : ServerView Tables)
     (steps : List Step) : Type 0 where
-  pub last : Standing Tables
+  pub last : ServerView Tables
   pub runs : Runs (Moves state) first last steps
   pub looks : Looked state last now
 
 -- A serving that goes on: by these acts a server that stands for no event, over the rows that are
 -- there, and that holds no connection, has come to where it is.
 pub record Serving {Tables : Type 0} (state : Tables → State) (rows : List Row)
-    (before after : Option (List Call)) (first now : Standing Tables) (hold : Hold)
+    (before after : Option (List Call)) (first now : ServerView Tables) (hold : Hold)
     (acts : List Act) : Type 0 where
-  pub begins : StandsFor state rows first []
+  pub begins : Refines state rows first []
   pub are : AreActs nothing_held acts
   pub leaves : hold ≡ after_acts nothing_held acts
   pub calls : LogsAll before after (flat_map act_calls acts)
@@ -90,8 +90,8 @@ served_done acts cut = flat_map act_done acts ++ cut_done cut
 -- What a serving came to: its acts, and the part of a turn that a fault cut off. Where none did
 -- this part is one before any call.
 pub record Served {Tables : Type 0} (state : Tables → State) (rows : List Row)
-    (first last : Standing Tables) (acts : List Act) (cut : Cut) : Type 0 where
-  pub begins : StandsFor state rows first []
+    (first last : ServerView Tables) (acts : List Act) (cut : Cut) : Type 0 where
+  pub begins : Refines state rows first []
   pub are : AreActs nothing_held acts
   pub fits : IsCut (after_acts nothing_held acts) cut
   pub steps : ComesBy state first last (served_steps acts cut)

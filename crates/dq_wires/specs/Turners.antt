@@ -3,7 +3,7 @@ use Rattle.std.specs.Prelude.{◌≡◌, ◌+◌, ℕ, IsTrue, List, [], ◌∷�
 use Rattle.dq_core.specs.declared.event.Event.{Event}
 use Rattle.dq_core.specs.declared.event.Event.TheVariants.{Open, Piece, End, Pull, Schedule, Withdraw}
 use Rattle.dq_core.specs.Histories.{is_above}
-use Rattle.dq_core.specs.Standing.{Standing}
+use Rattle.dq_core.specs.ServerView.{ServerView}
 use Rattle.dq_wires.specs.declared.calls.Call.{Call}
 use Rattle.dq_wires.specs.declared.calls.Call.TheVariants.{Accept}
 use Rattle.dq_wires.specs.declared.fault.TurnFault.{TurnFault}
@@ -13,7 +13,7 @@ use Rattle.dq_wires.specs.Turns.{Hold, accept_failure}
 
 -- Its server, the connections that are held, and the fault that stopped it.
 pub record Turning (Tables : Type 0) : Type 0 where
-  pub server : Standing Tables
+  pub server : ServerView Tables
   pub hold : Hold
   pub fault : Option TurnFault
 

@@ -6,7 +6,7 @@ use crate::given_up::GivenUp;
 use crate::log_line::{LineContent, LogLine};
 use crate::watched::Watched;
 use dq_assoc::Service;
-use dq_core::{Note, Noted, Notes};
+use dq_core::{LogEvent, Note, Notes};
 use jiff::Timestamp;
 use std::alloc::{AllocError, Global};
 use std::io::Write;
@@ -137,7 +137,7 @@ impl<L: Write + Drop> AssociationLog<L> {
         if is_told(noted) {
             self.put(
                 Some(*number),
-                LineContent::Noted {
+                LineContent::Event {
                     noted,
                     peer,
                     milliseconds,
@@ -214,13 +214,13 @@ impl<L: Write + Drop> AssociationLog<L> {
 }
 
 /// Whether what was noted has a line of its own: of messages only queries have.
-fn is_told(noted: &Noted) -> bool
+fn is_told(noted: &LogEvent) -> bool
     ensures { result ≡ has_line noted.now }
 {
     match noted {
-        Noted::Accepted { .. } | Noted::Rejected { .. } | Noted::Aborted { .. } => true,
-        Noted::Released | Noted::Ended => false,
-        Noted::Served { service, .. } => {
+        LogEvent::Accepted { .. } | LogEvent::Rejected { .. } | LogEvent::Aborted { .. } => true,
+        LogEvent::Released | LogEvent::Ended => false,
+        LogEvent::Served { service, .. } => {
             *service == Service::StudyRootFind || *service == Service::WorklistFind
         }
     }

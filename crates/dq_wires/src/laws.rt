@@ -15,7 +15,7 @@ ghost use Rattle.dq_core.specs.Owners.{owner};
 ghost use Rattle.dq_core.specs.Conversations.{arrivals, conversation_on, IsExactAt};
 ghost use Rattle.dq_core.specs.Soundness.{HoldSound, BringOctets};
 ghost use Rattle.dq_core.specs.Isolation.{Begins};
-ghost use Rattle.dq_core.specs.Standing.{Standing, StandsFor};
+ghost use Rattle.dq_core.specs.ServerView.{ServerView, Refines};
 ghost use Rattle.dq_core.specs.Looking.{Looked};
 ghost use Rattle.dq_wires.specs.declared.calls.Call.{Call};
 ghost use Rattle.dq_wires.specs.declared.fault.TurnFault.{TurnFault};
@@ -43,7 +43,7 @@ use dq_tables::Tables;
 /// The steps of turns are a history of the plain server: its events come after those that the
 /// server stands for, and its replies are those of the plain server.
 pub fn steps_are_a_history<T: Tables>()
-    ensures { (old new : Standing T) (steps : List Step) →
+    ensures { (old new : ServerView T) (steps : List Step) →
         Runs (Moves T.state) old new steps →
         Serves T.state old new steps }
 {}
@@ -78,7 +78,7 @@ pub fn no_more_are_held_than_fit()
 
 /// What a look leaves is not seen by the steps after it: a step after a look is that step alone.
 pub fn looks_leave_no_trace<T: Tables>()
-    ensures { (old mid new : Standing T) (event : Event) (reply : Reply) →
+    ensures { (old mid new : ServerView T) (event : Event) (reply : Reply) →
         Looked T.state old mid → Stepped T.state mid new event reply →
         Stepped T.state old new event reply }
 {}
@@ -87,29 +87,29 @@ pub fn looks_leave_no_trace<T: Tables>()
 /// that went to their end, orders that were answered, looks, and at last turns that a fault cut
 /// off.
 pub fn calls_are_a_serving<T: Tables>()
-    ensures begins { (rows : List Row) (log : Option (List Call)) (server : Standing T) →
-        StandsFor T.state rows server [] →
+    ensures begins { (rows : List Row) (log : Option (List Call)) (server : ServerView T) →
+        Refines T.state rows server [] →
         Serving T.state rows log log server server nothing_held [] }
     ensures turns { (rows : List Row) (before now after : Option (List Call))
-        (first mid next : Standing T) (hold to : Hold) (acts : List Act) (count : ℕ) →
+        (first mid next : ServerView T) (hold to : Hold) (acts : List Act) (count : ℕ) →
         Serving T.state rows before now first mid hold acts →
         (went : TurnsWent (Moves T.state) now after mid next hold to count) →
         Serving T.state rows before after first next to (acts ++ all_turned went.turns) }
     ensures order { (rows : List Row) (before now : Option (List Call))
-        (first mid next : Standing T) (hold : Hold) (acts : List Act) (event : Event)
+        (first mid next : ServerView T) (hold : Hold) (acts : List Act) (event : Event)
         (reply : Reply) → Serving T.state rows before now first mid hold acts →
         IsOrder event → Stepped T.state mid next event reply →
         Serving T.state rows before now first next hold (acts ++ Ordered event reply ∷ []) }
     ensures look { (rows : List Row) (before now : Option (List Call))
-        (first mid next : Standing T) (hold : Hold) (acts : List Act) →
+        (first mid next : ServerView T) (hold : Hold) (acts : List Act) →
         Serving T.state rows before now first mid hold acts → Looked T.state mid next →
         Serving T.state rows before now first next hold acts }
-    ensures whole { (rows : List Row) (before now : Option (List Call)) (first last : Standing T)
+    ensures whole { (rows : List Row) (before now : Option (List Call)) (first last : ServerView T)
         (hold : Hold) (acts : List Act) →
         Serving T.state rows before now first last hold acts →
         Served T.state rows first last acts NoRoom }
     ensures cut { (rows : List Row) (before now after : Option (List Call))
-        (first mid new : Standing T) (hold : Hold) (acts : List Act) (count : ℕ)
+        (first mid new : ServerView T) (hold : Hold) (acts : List Act) (count : ℕ)
         (fault : TurnFault) → Serving T.state rows before now first mid hold acts →
         (off : TurnsCut (Moves T.state) (Fails T.state) now after mid new hold count fault) →
         Served T.state rows first off.mid (acts ++ all_turned off.turns) off.cut }
@@ -119,18 +119,18 @@ pub fn calls_are_a_serving<T: Tables>()
 /// rise, and the rows are then those of the plain server; and what is written on a connection is
 /// the first of what was answered on it, each octet once and in order.
 pub fn servings_are_answered<T: Tables>()
-    ensures well_formed { (rows : List Row) (first last : Standing T) (acts : List Act)
+    ensures well_formed { (rows : List Row) (first last : ServerView T) (acts : List Act)
         (cut : Cut) → Served T.state rows first last acts cut →
         IsTrue (is_well_formed_history (served_events acts cut)) }
-    ensures replies { (rows : List Row) (first last : Standing T) (acts : List Act) (cut : Cut) →
+    ensures replies { (rows : List Row) (first last : ServerView T) (acts : List Act) (cut : Cut) →
         Served T.state rows first last acts cut → (T.state last.tables).honest →
         replies_of (served_steps acts cut)
         ≡ replies first.institutions rows (served_events acts cut) }
-    ensures rows { (rows : List Row) (first last : Standing T) (acts : List Act) (cut : Cut) →
+    ensures rows { (rows : List Row) (first last : ServerView T) (acts : List Act) (cut : Cut) →
         Served T.state rows first last acts cut → (T.state last.tables).honest →
         (T.state last.tables).rows
         ≡ (world_after first.institutions rows (served_events acts cut)).rows }
-    ensures written { (rows : List Row) (first last : Standing T) (acts : List Act) (cut : Cut) →
+    ensures written { (rows : List Row) (first last : ServerView T) (acts : List Act) (cut : Cut) →
         Served T.state rows first last acts cut → (T.state last.tables).honest → (number : ℕ) →
         IsFrontOf (written_on number acts cut) (answered_on number acts cut) }
 {}
@@ -140,13 +140,13 @@ pub fn servings_are_answered<T: Tables>()
 /// rows were sound as the serving began and octets came, each C-FIND in it is answered with exactly
 /// the records that match (PS3.4 sections C.4.1 and K.4.1).
 pub fn servings_are_exact<T: Tables>()
-    ensures written { (rows : List Row) (first last : Standing T) (acts : List Act) (cut : Cut) →
+    ensures written { (rows : List Row) (first last : ServerView T) (acts : List Act) (cut : Cut) →
         Served T.state rows first last acts cut → (T.state last.tables).honest →
         (number : ℕ) (i : Institution) → let events = served_events acts cut in
         owner first.institutions (stream_of number events) ≡ Some i →
         IsFrontOf (written_on number acts cut)
         (octets_among (conversation_on first.institutions rows number i events)) }
-    ensures exact { (rows : List Row) (first last : Standing T) (acts : List Act) (cut : Cut) →
+    ensures exact { (rows : List Row) (first last : ServerView T) (acts : List Act) (cut : Cut) →
         Served T.state rows first last acts cut → (T.state last.tables).honest →
         (number : ℕ) (i : Institution) → let events = served_events acts cut in
         HoldSound rows → BringOctets events →
@@ -161,11 +161,11 @@ pub fn servings_are_exact<T: Tables>()
 /// fails at an event, a crash leaves the rows after some first operations of the event, with or
 /// without the next one.
 pub fn servings_settle<T: Tables>()
-    ensures answered { (rows : List Row) (first last : Standing T) (acts : List Act) (cut : Cut) →
+    ensures answered { (rows : List Row) (first last : ServerView T) (acts : List Act) (cut : Cut) →
         Served T.state rows first last acts cut → (T.state last.tables).honest →
         IsSettled (T.state first.tables) → (r : List Row) → (T.state last.tables).may_leave r →
         r ≡ (world_after first.institutions rows (served_events acts cut)).rows }
-    ensures failed { (rows : List Row) (first last new : Standing T) (acts : List Act) (cut : Cut)
+    ensures failed { (rows : List Row) (first last new : ServerView T) (acts : List Act) (cut : Cut)
         (event : Event) (fault : Fault) →
         Served T.state rows first last acts cut → Fails T.state last new event fault →
         (T.state new.tables).honest → IsSettled (T.state first.tables) →
@@ -181,8 +181,8 @@ pub fn servings_settle<T: Tables>()
 /// still to come in each (`later`), and nothing is asked of what came on other connections or for
 /// other institutions.
 pub fn institutions_are_isolated_on_wires<T: Tables, O: Tables>()
-    ensures { (rows other_rows : List Row) (first last : Standing T)
-        (other_first other_last : Standing O) (acts other_acts : List Act) (cut other_cut : Cut) →
+    ensures { (rows other_rows : List Row) (first last : ServerView T)
+        (other_first other_last : ServerView O) (acts other_acts : List Act) (cut other_cut : Cut) →
         Served T.state rows first last acts cut →
         Served O.state other_rows other_first other_last other_acts other_cut →
         (T.state last.tables).honest → (O.state other_last.tables).honest →

@@ -2,7 +2,7 @@
 use crate::given_up::GivenUp;
 use crate::watched::Tally;
 use dq_assoc::Service;
-use dq_core::{Noted, Party, Sought, Titles};
+use dq_core::{LogEvent, Party, QuerySummary, Titles};
 use dq_list::Listed;
 use dq_value::stripped;
 use dq_vr::Tag;
@@ -16,14 +16,14 @@ pub(crate) enum LineContent<'a> {
     /// The server starts, of a version.
     Started(&'a str),
     /// What was noted, with the peer's address, and how many milliseconds its turn took.
-    Noted {
-        noted: &'a Noted,
+    Event {
+        noted: &'a LogEvent,
         peer: Option<SocketAddr>,
         milliseconds: u64,
     },
     /// An association ended, by what was noted, after so many milliseconds.
     Ended {
-        noted: &'a Noted,
+        noted: &'a LogEvent,
         tally: Tally,
         milliseconds: u64,
     },
@@ -126,10 +126,10 @@ fn rejection_words(source: u8, reason: u8, has_room: bool) -> &'static str {
 }
 
 /// How an association ended, in a word.
-fn ending_of(noted: &Noted) -> &'static str {
+fn ending_of(noted: &LogEvent) -> &'static str {
     match noted {
-        Noted::Released => "released",
-        Noted::Aborted { .. } => "aborted",
+        LogEvent::Released => "released",
+        LogEvent::Aborted { .. } => "aborted",
         _ => "lost",
     }
 }
@@ -155,28 +155,31 @@ fn word_of(value: &Listed<u8>) -> Word<'_> {
 }
 
 /// Writes what a C-FIND asks for, if it could be read.
-fn write_sought<W: fmt::Write>(f: &mut fmt::Formatter<W>, sought: Option<&Sought>) -> fmt::Result {
-    let Some(sought) = sought else {
+fn write_query<W: fmt::Write>(
+    f: &mut fmt::Formatter<W>,
+    query: Option<&QuerySummary>,
+) -> fmt::Result {
+    let Some(query) = query else {
         return f.write_str("unread");
     };
     write!(
         f,
         "modality {} station {} day {} keys {}",
-        word_of(&sought.modality),
-        word_of(&sought.station),
-        word_of(&sought.day),
-        Keys(sought.keys.as_slice())
+        word_of(&query.modality),
+        word_of(&query.station),
+        word_of(&query.day),
+        Keys(query.keys.as_slice())
     )
 }
 
 /// Writes why an association is rejected or aborted.
 fn write_refusal<W: fmt::Write>(
     f: &mut fmt::Formatter<W>,
-    noted: &Noted,
+    noted: &LogEvent,
     peer: Address,
 ) -> fmt::Result {
     match noted {
-        Noted::Rejected {
+        LogEvent::Rejected {
             titles,
             result,
             source,
@@ -190,7 +193,7 @@ fn write_refusal<W: fmt::Write>(
                 "rejected {pair} {peer} {result} {source} {reason} {words}"
             )
         }
-        Noted::Aborted {
+        LogEvent::Aborted {
             party,
             source,
             reason,
@@ -202,12 +205,12 @@ fn write_refusal<W: fmt::Write>(
 /// Writes what was noted. The end of an association has a line of its own.
 fn write_noted<W: fmt::Write>(
     f: &mut fmt::Formatter<W>,
-    noted: &Noted,
+    noted: &LogEvent,
     peer: Address,
     milliseconds: u64,
 ) -> fmt::Result {
     match noted {
-        Noted::Accepted {
+        LogEvent::Accepted {
             institution,
             titles,
             contexts,
@@ -221,14 +224,14 @@ fn write_noted<W: fmt::Write>(
             };
             write!(f, "accepted {name} {pair} {peer} {contexts} {noun}")
         }
-        Noted::Served {
+        LogEvent::Served {
             service,
             status,
             answers,
-            sought,
+            query,
         } => {
             write!(f, "{} query ", searched_by(*service))?;
-            write_sought(f, sought.as_ref())?;
+            write_query(f, query.as_ref())?;
             write!(
                 f,
                 " status {status:04x} answers {answers} ms {milliseconds}"
@@ -246,7 +249,7 @@ impl fmt::Display for LogLine<'_> {
             None => f.write_str("- ")?,
         }
         match self.told {
-            LineContent::Noted {
+            LineContent::Event {
                 noted,
                 peer,
                 milliseconds,

@@ -3,7 +3,7 @@ ghost use Rattle.std.specs.Prelude.{◌≡◌, ◌≢◌, ◌<◌, ◌+◌, ◌�
 ghost use Rattle.std.specs.List.{position};
 ghost use Rattle.dq_tables.specs.declared.row.Row.{Row};
 ghost use Rattle.dq_core.specs.Histories.{is_above, opened_numbers};
-ghost use Rattle.dq_core.specs.Standing.{Standing, StandsFor};
+ghost use Rattle.dq_core.specs.ServerView.{ServerView, Refines};
 ghost use Rattle.dq_wires.specs.Held.{wire_with};
 ghost use Rattle.dq_wires.specs.Turns.{Hold};
 ghost use Rattle.dq_wires.specs.Turners.{IsOrder};
@@ -401,8 +401,8 @@ pub fn loop_back<T: Tables + Drop, W: Called<M> + Drop, M>(
     ensures sent { IfOk result
         (λ sent. map sent_number sent.items ≡ opened_numbers events.items) }
     // What was done is a serving, by acts in which the events came about, in order.
-    ensures served { (rows : List Row) → StandsFor T.state rows server [] → OnOk result
-        ((acts : List Act) × (left : W) × (last : Standing T) × (hold : Hold)
+    ensures served { (rows : List Row) → Refines T.state rows server [] → OnOk result
+        ((acts : List Act) × (left : W) × (last : ServerView T) × (hold : Hold)
         × ArePlayed [] nothing_held events.items acts
         × Serving T.state rows (W.log wires) (W.log left) server last hold acts) }
 {

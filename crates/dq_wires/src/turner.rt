@@ -15,7 +15,7 @@ use crate::rounds::HeldWires;
 use crate::stepping::step_order;
 use crate::wire::Wire;
 use crate::wires::Wires;
-use dq_core::{Event, Fault, Look, Notes, Reply, SearchKind, Server, ShownPage};
+use dq_core::{Event, Fault, Notes, Reply, SearchKind, Server, ShownPage, TableInspection};
 use dq_dataset::DataSet;
 use dq_list::Listed;
 use dq_match::Found;
@@ -229,7 +229,7 @@ impl<T: Tables> Turner<T> {
     }
 
     /// Looks at what keeps the rows. It is no event, and changes nothing.
-    pub fn look<L: Look<T>>(&mut self, look: &L) -> Result<L::Seen, Fault>
+    pub fn look<L: TableInspection<T>>(&mut self, look: &L) -> Result<L::Seen, Fault>
         ensures shows { (T.state self.new.server.tables).honest → IfOk result (λ seen.
             L.shows look.now (T.state self.old.server.tables).rows seen) }
         ensures looked { OnOk result (Looked T.state self.old.server self.new.server) }

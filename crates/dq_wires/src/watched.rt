@@ -3,7 +3,7 @@ ghost use Rattle.std.specs.Prelude.{◌≡◌};
 ghost use Rattle.dq_wires.specs.Lines.{ended_by, open_after};
 
 use dq_assoc::Service;
-use dq_core::Noted;
+use dq_core::LogEvent;
 use dq_dimse::status;
 use jiff::Timestamp;
 use std::fmt;
@@ -52,15 +52,15 @@ impl Watched {
     }
 
     /// Counts what is noted of it.
-    pub(crate) fn count(&mut self, noted: &Noted, time: Timestamp) {
+    pub(crate) fn count(&mut self, noted: &LogEvent, time: Timestamp) {
         match noted {
-            Noted::Accepted { .. } => {
+            LogEvent::Accepted { .. } => {
                 self.opened = Some(Opened {
                     since: time,
                     tally: Tally::default(),
                 });
             }
-            Noted::Served {
+            LogEvent::Served {
                 service,
                 status,
                 answers,
@@ -75,12 +75,12 @@ impl Watched {
     }
 
     /// The association that is open, where what is noted ends it.
-    pub(crate) fn close(&mut self, noted: &Noted) -> Option<Opened>
+    pub(crate) fn close(&mut self, noted: &LogEvent) -> Option<Opened>
         ensures ended { result ≡ ended_by noted.now self.old.opened }
         ensures left { self.new ≡ record self.old { opened = open_after noted.now self.old.opened } }
     {
         match noted {
-            Noted::Released | Noted::Ended | Noted::Aborted { .. } => self.opened.take(),
+            LogEvent::Released | LogEvent::Ended | LogEvent::Aborted { .. } => self.opened.take(),
             _ => None,
         }
     }

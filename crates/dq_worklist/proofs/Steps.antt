@@ -15,8 +15,8 @@ use Rattle.dq_dataset.specs.Tree.{ElementList, ItemList, no_items, item}
 use Rattle.dq_dataset.specs.View.{elements_of, has_tag}
 use Rattle.dq_dataset.specs.Values.{element_at, sole_at}
 use Rattle.dq_dataset.proofs.KnownVrs.{HasKnownInside, HaveKnownVrs}
-use Rattle.dq_match.specs.declared.keys.Place.{Place}
-use Rattle.dq_match.specs.declared.keys.Place.TheVariants.{Outer, Inner}
+use Rattle.dq_match.specs.declared.keys.Nesting.{Nesting}
+use Rattle.dq_match.specs.declared.keys.Nesting.TheVariants.{Outer, Inner}
 use Rattle.dq_match.specs.Keys.{items_in}
 use Rattle.dq_match.specs.Matching.{period, is_matched_elsewhere, items_meet, all_met, fits, meets}
 use Rattle.dq_match.specs.Fitting.{EachIsMet, PeriodIsMet, SomeItemFits}
@@ -81,7 +81,7 @@ module _ (d step : ElementList) (known : AllKnownInside d) (is : IsOnlyStep d st
 
 -- what the laws of matching say
 abbrev pub EachAlone : Type 0
-EachAlone = (place : Place) (keys held : ElementList) → (all_met place keys held ≡ true) ↔ (EachIsMet place keys held × PeriodIsMet keys held)
+EachAlone = (place : Nesting) (keys held : ElementList) → (all_met place keys held ≡ true) ↔ (EachIsMet place keys held × PeriodIsMet keys held)
 
 abbrev pub ItemsMet : Type 0
 ItemsMet = (keys : ElementList) (others : ItemList) (items : List ElementList)

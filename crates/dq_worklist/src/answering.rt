@@ -11,7 +11,7 @@ ghost use Rattle.dq_tables.specs.Records.{data_set_of};
 ghost use Rattle.dq_tables.specs.declared.row.Row.{Row as TheRow};
 ghost use Rattle.dq_tables.specs.Keeping.{Reads};
 ghost use Rattle.dq_tables.specs.Rows.{Record, of, record_of, row_of};
-ghost use Rattle.dq_archive.specs.Archives.{Looks};
+ghost use Rattle.dq_archive.specs.Archives.{QueriesOnly};
 ghost use Rattle.dq_worklist.specs.Candidates.{id_asked, entry_candidates, entry_answer};
 ghost use Rattle.dq_tables.specs.Serving.{Serves};
 ghost use Rattle.dq_worklist.specs.Queries.{listed_by, worklist_outcome, keys_outcome};
@@ -24,7 +24,7 @@ use dq_dimse::Message;
 use dq_dimse::status::SUCCESS;
 use dq_list::Listed;
 use dq_match::laws::keys_are_met_alone_and_as_a_period;
-use dq_match::{Found, Part, PreparedKeys, is_plain, shown};
+use dq_match::{Found, PageCollector, PreparedKeys, is_plain, shown};
 use dq_tables::laws::honest_rows_are_sound;
 use dq_tables::{Kind, Row, TableFault, Tables, sole_item_at};
 use dq_vr::{Tag, tags};
@@ -68,7 +68,7 @@ fn candidates<T: Tables>(
     archive: &mut Archive<'_, T>,
     keys: &DataSet,
 ) -> Result<Listed<Row>, TableFault>
-    ensures { Looks T.state archive.old archive.new (λ records.
+    ensures { QueriesOnly T.state archive.old archive.new (λ records.
         map (row_of archive.old.institution.now.name) (entry_candidates records keys.now)) result }
 {
     let Some(id) = id_asked(keys) else {
@@ -122,7 +122,7 @@ fn answers_of(
         (λ (row : TheRow). entry_answer keys.now (record_of row)) rows.now)) }
 {
     let prepared = PreparedKeys::of(alloc, keys)?;
-    let mut part = Part::new(alloc, from, most);
+    let mut part = PageCollector::new(alloc, from, most);
     for row in rows {
         if part.is_full() {
             return Ok(part.into_answers());
@@ -181,7 +181,7 @@ fn answers_to<T: Tables>(
     most: Option<usize>,
 ) -> Result<Found, TableFault>
     requires { IfOk asked (λ query. HasKnownTags query.keys) }
-    ensures { Looks T.state archive.old archive.new (λ (records : List Record).
+    ensures { QueriesOnly T.state archive.old archive.new (λ (records : List Record).
         found_of from most (listed_by records asked)) result }
 {
     let query = match asked {

@@ -3,7 +3,7 @@ ghost use Rattle.std.specs.Prelude.{◌≡◌, List, None, Some, IfOk, IfSome};
 ghost use Rattle.dq_config.specs.Limits.{limits_of};
 ghost use Rattle.dq_tables.specs.Rows.{Record, row_of};
 ghost use Rattle.dq_tables.specs.Serving.{Serves};
-ghost use Rattle.dq_archive.specs.Archives.{Looks, Decides};
+ghost use Rattle.dq_archive.specs.Archives.{QueriesOnly, Decides};
 ghost use Rattle.dq_worklist.specs.Orders.{entry_of, refusal_number, schedule_outcome, withdrawn};
 ghost use Rattle.dq_worklist.specs.Views.{held_order, CanBeKept, data_set_within, record_refusal};
 
@@ -102,7 +102,7 @@ fn record_refusal<T: Tables>(
     archive: &mut Archive<'_, T>,
     id: &[u8],
 ) -> Result<Option<Refusal>, TableFault>
-    ensures { Looks T.state archive.old archive.new (λ records.
+    ensures { QueriesOnly T.state archive.old archive.new (λ records.
         record_refusal (limits_of archive.old.institution.now) records id.now) result }
 {
     if archive.has(Kind::Entry, id)? {

@@ -6,7 +6,7 @@ use Rattle.dq_assoc.specs.declared.agreement.Agreement.{Agreement}
 use Rattle.dq_config.specs.Limits.{Limits}
 use Rattle.dq_tables.specs.Rows.{Record, records_after_edits}
 use Rattle.dq_core.specs.Pages.{OpenQuery, reaction}
-use Rattle.dq_core.specs.Doing.{agreement_after}
+use Rattle.dq_core.specs.Effects.{agreement_after}
 use Rattle.dq_core.specs.Answers.{Progress, Answer, input_answer, agreement_by, message_answer, then_answer, input_answers}
 
 -- answers follow one another, up to the first that closes

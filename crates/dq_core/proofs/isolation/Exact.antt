@@ -8,7 +8,7 @@ use Rattle.dq_dataset.specs.declared.header.Syntax.{Syntax}
 use Rattle.dq_dimse.specs.CommandFields.{c_cancel, c_echo, c_find, c_store, n_create, n_set}
 use Rattle.dq_dimse.specs.Received.{Message}
 use Rattle.dq_dimse.specs.Statuses.{success}
-use Rattle.dq_assoc.specs.declared.agreement.AgreedContext.{AgreedContext}
+use Rattle.dq_assoc.specs.declared.agreement.AcceptedContext.{AcceptedContext}
 use Rattle.dq_assoc.specs.declared.agreement.Agreement.{Agreement}
 use Rattle.dq_assoc.specs.declared.classes.Service.{Service}
 use Rattle.dq_assoc.specs.declared.classes.Service.TheVariants.{Verification, Storage, StudyRootFind, WorklistFind, PerformedProcedureStep}
@@ -51,12 +51,12 @@ EntriesFound = (institution : List ℕ) (rows : List Row) (message : Message) (s
     × worklist_answers.AreEntryAnswers (of institution rows) keys (worklist.worklist_outcome (of institution rows) message syntax).answers
 
 -- whether some keys are optional is the query's
-study-optional : (records : List Record) (called : List ℕ) (message : Message) (context : AgreedContext) (query : Query)
+study-optional : (records : List Record) (called : List ℕ) (message : Message) (context : AcceptedContext) (query : Query)
     → study.message_query message context.syntax ≡ Ok query → (study.query_outcome records called message context.syntax).optional ≡ query.optional
 unfolding study.query_outcome
 study-optional records called message context query e = rw e refl
 
-entries-optional : (records : List Record) (message : Message) (context : AgreedContext) (keys : ElementList) (optional : Bool)
+entries-optional : (records : List Record) (message : Message) (context : AcceptedContext) (keys : ElementList) (optional : Bool)
     → worklist.worklist_query message context.syntax ≡ Ok (record { keys = keys; optional = optional })
     → (worklist.worklist_outcome records message context.syntax).optional ≡ optional
 unfolding worklist.worklist_outcome
@@ -88,7 +88,7 @@ pub only : (b : Bool) (allowed named : DimseOperation) → (if b then Some allow
 only true allowed named e = cc
 only false allowed named e = cc
 
-module _ (limits : Limits) (records : List Record) (a : Agreement) (message : Message) (context : AgreedContext) where
+module _ (limits : Limits) (records : List Record) (a : Agreement) (message : Message) (context : AcceptedContext) where
   abbrev found_on : Found
   found_on = (message_outcome a context limits message records).0
 
@@ -134,7 +134,7 @@ module _ (limits : Limits) (records : List Record) (a : Agreement) (message : Me
       (λ s. h (ap (λ (x : Responses). x.final.0.status) is ∙ s)))
 
 module _ (studies : StudiesFound) (entries : EntriesFound) (institution : List ℕ) (rows : List Row) (sound : IsSound rows) (limits : Limits)
-    (a : Agreement) (message : Message) (context : AgreedContext) where
+    (a : Agreement) (message : Message) (context : AcceptedContext) where
   abbrev own : List Record
   own = of institution rows
 

@@ -8,7 +8,7 @@ use Rattle.dq_list.specs.Octets.{AreOctets}
 use Rattle.dq_dataset.specs.declared.header.Syntax.{Syntax}
 use Rattle.dq_dimse.specs.CommandFields.{c_cancel}
 use Rattle.dq_dimse.specs.Received.{Message}
-use Rattle.dq_assoc.specs.declared.agreement.AgreedContext.{AgreedContext}
+use Rattle.dq_assoc.specs.declared.agreement.AcceptedContext.{AcceptedContext}
 use Rattle.dq_assoc.specs.declared.agreement.Agreement.{Agreement}
 use Rattle.dq_assoc.specs.declared.association.Verdict.{Verdict}
 use Rattle.dq_assoc.specs.Classes.{service_of, uid_of}
@@ -178,8 +178,8 @@ module _ (Good : List Row → Type 0) where
     outcome-kept (Some operation) false called syntax message are = good
     outcome-kept (Some operation) true called syntax message are = operation-kept operation called syntax message are
 
-    on-kept : (o : Option AgreedContext) (agreement : Agreement) (message : Message) → AreOctets message.octets
-        → Keep name (option_map_or (λ (context : AgreedContext). served_by context message.command
+    on-kept : (o : Option AcceptedContext) (agreement : Agreement) (message : Message) → AreOctets message.octets
+        → Keep name (option_map_or (λ (context : AcceptedContext). served_by context message.command
         (message_outcome agreement context limits message (of name rows))) o no_response).edits rows
     on-kept None agreement message are = good
     on-kept (Some context) agreement message are =

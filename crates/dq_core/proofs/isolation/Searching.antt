@@ -6,7 +6,7 @@ use Rattle.dq_dataset.specs.Tree.{ElementList}
 use Rattle.dq_dimse.specs.CommandFields.{c_find}
 use Rattle.dq_dimse.specs.Received.{Message}
 use Rattle.dq_dimse.specs.Statuses.{success}
-use Rattle.dq_assoc.specs.declared.agreement.AgreedContext.{AgreedContext}
+use Rattle.dq_assoc.specs.declared.agreement.AcceptedContext.{AcceptedContext}
 use Rattle.dq_assoc.specs.declared.agreement.Agreement.{Agreement}
 use Rattle.dq_assoc.specs.declared.classes.Service.TheVariants.{StudyRootFind, WorklistFind}
 use Rattle.dq_assoc.specs.Classes.{service_of, uid_of}
@@ -17,7 +17,7 @@ use Rattle.dq_worklist.specs.Queries as worklist
 use Rattle.dq_tables.specs.Rows.{Record}
 use Rattle.dq_core.specs.Services.{message_outcome}
 
-pub study_search : (agreement : Agreement) (context : AgreedContext) (limits : Limits)
+pub study_search : (agreement : Agreement) (context : AcceptedContext) (limits : Limits)
     (message : Message) (records : List Record) (query : Query)
     → service_of context.class ≡ StudyRootFind → message.command.code ≡ c_find
     → message.command.sop_class ≡ uid_of context.class
@@ -37,7 +37,7 @@ study_search agreement context limits message records query service finds is ask
     let same : bytes_eq message.command.sop_class (uid_of context.class) ≡ true =
     (bytes_eq-Decides message.command.sop_class (uid_of context.class)).1 is in rw (service, named, same, asked) refl
 
-pub worklist_search : (agreement : Agreement) (context : AgreedContext) (limits : Limits)
+pub worklist_search : (agreement : Agreement) (context : AcceptedContext) (limits : Limits)
     (message : Message) (records : List Record) (keys : ElementList) (optional : Bool)
     → service_of context.class ≡ WorklistFind → message.command.code ≡ c_find
     → message.command.sop_class ≡ uid_of context.class

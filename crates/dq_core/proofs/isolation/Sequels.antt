@@ -7,7 +7,7 @@ use Rattle.std.proofs.lemmas.List.{append-nil, take-append-drop, length-drop}
 use Rattle.std.proofs.Math.Seq.{take-add}
 use Rattle.dq_dimse.specs.CommandFields.{c_cancel}
 use Rattle.dq_dimse.specs.Received.{Message}
-use Rattle.dq_assoc.specs.declared.agreement.AgreedContext.{AgreedContext}
+use Rattle.dq_assoc.specs.declared.agreement.AcceptedContext.{AcceptedContext}
 use Rattle.dq_assoc.specs.declared.agreement.Agreement.{Agreement}
 use Rattle.dq_assoc.specs.Negotiation.{context_of}
 use Rattle.dq_assoc.specs.Table.{Sent}
@@ -131,8 +131,8 @@ module _ (limits : Limits) (records : List Record) (a : Agreement) (m : Message)
   none-served h = rw h refl
 
   -- the final response has the message's id
-  id-on : (o : Option AgreedContext) (r : Responses)
-      → (option_map_or (λ (context : AgreedContext). served_by context m.command (message_outcome a context limits m records)) o no_response).responses ≡ Some r
+  id-on : (o : Option AcceptedContext) (r : Responses)
+      → (option_map_or (λ (context : AcceptedContext). served_by context m.command (message_outcome a context limits m records)) o no_response).responses ≡ Some r
       → r.final.0.id ≡ m.command.id
   id-on None r e = cc
   id-on (Some context) r e =

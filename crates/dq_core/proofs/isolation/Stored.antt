@@ -10,7 +10,7 @@ use Rattle.dq_dataset.specs.Tree.{no_elements}
 use Rattle.dq_dimse.specs.CommandFields.{c_cancel, c_store}
 use Rattle.dq_dimse.specs.Received.{Message}
 use Rattle.dq_dimse.specs.Statuses.{success, elements_discarded}
-use Rattle.dq_assoc.specs.declared.agreement.AgreedContext.{AgreedContext}
+use Rattle.dq_assoc.specs.declared.agreement.AcceptedContext.{AcceptedContext}
 use Rattle.dq_assoc.specs.declared.agreement.Agreement.{Agreement}
 use Rattle.dq_assoc.specs.declared.classes.Service.{Service}
 use Rattle.dq_assoc.specs.declared.classes.Service.TheVariants.{Storage}
@@ -59,7 +59,7 @@ Says wanted b = (name : List ℕ) (limits : Limits) (rows : List Row) (message :
     (instance_in (result_unwrap_or (reading syntax message.octets) no_elements)) ≡ b
 
 module _ (whole : Says success true) (discarded : Says elements_discarded false) (name : List ℕ) (rows : List Row) (limits : Limits) (a : Agreement)
-    (message : Message) (are : AreOctets message.octets) (made : AreMade rows) (context : AgreedContext) where
+    (message : Message) (are : AreOctets message.octets) (made : AreMade rows) (context : AcceptedContext) where
   abbrev records : List Record
   records = of name rows
 

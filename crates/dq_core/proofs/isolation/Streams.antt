@@ -14,7 +14,7 @@ use Rattle.dq_tables.specs.Rows.{Record}
 use Rattle.dq_core.specs.Pages.{OpenQuery}
 use Rattle.dq_core.specs.Connections.{Connection, with_piece}
 use Rattle.dq_core.specs.Answers.{then_answer, input_answers, request_in, progress_of, inputs_added, piece_answer}
-use Rattle.dq_core.specs.Doing.{agreement_after}
+use Rattle.dq_core.specs.Effects.{agreement_after}
 use Rattle.dq_core.specs.Owners.{owner, owner_by}
 use Rattle.dq_core.proofs.isolation.AnswerLaws.{answers-append, next-agreement, verdict-unread}
 

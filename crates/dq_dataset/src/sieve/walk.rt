@@ -30,7 +30,7 @@ pub enum Reach {
 
 /// Where a value is open, and what is due there.
 #[derive(Clone, Copy)]
-pub enum Place {
+pub enum Cursor {
     /// Octets, up to where so many of the outermost defined length are left.
     InOctets(usize),
     /// Items in the syntax, with so many more levels of sequences allowed.
@@ -46,9 +46,9 @@ pub struct Walk {
     /// that came.
     pub left: usize,
     /// The innermost place that is open.
-    pub place: Place,
+    pub place: Cursor,
     /// The places around it, the innermost last.
-    pub around: Vec<Place>,
+    pub around: Vec<Cursor>,
     /// What came of a header.
     pub front: Vec<u8>,
 }
@@ -135,24 +135,24 @@ impl Reach {
     }
 }
 
-impl Place {
+impl Cursor {
     fn reach(self) -> Reach
         ensures { result ≡ reach_of self }
     {
         match self {
-            Place::InOctets(until) => Reach::Measured(until),
-            Place::InItems(_, _, reach) | Place::InElements(_, _, _, reach) => reach,
+            Cursor::InOctets(until) => Reach::Measured(until),
+            Cursor::InItems(_, _, reach) | Cursor::InElements(_, _, _, reach) => reach,
         }
     }
 
     /// The place of a value, by what its header says.
-    fn of_value(content: Content, levels: u8, reach: Reach) -> Place
+    fn of_value(content: Content, levels: u8, reach: Reach) -> Cursor
         requires { may_nest levels content ≡ true }
         ensures { result ≡ place_of_value content levels reach }
     {
         match content {
-            Content::Plain(_) => Place::InOctets(reach.until()),
-            Content::Sequence(syntax, _) => Place::InItems(syntax, levels - 1, reach),
+            Content::Plain(_) => Cursor::InOctets(reach.until()),
+            Content::Sequence(syntax, _) => Cursor::InItems(syntax, levels - 1, reach),
         }
     }
 }
@@ -213,7 +213,7 @@ impl Walk {
         };
         let walk = Walk {
             left,
-            place: Place::of_value(content, DEPTH, reach),
+            place: Cursor::of_value(content, DEPTH, reach),
             around: Vec::new(alloc),
             front: Vec::new(alloc),
         };
@@ -244,7 +244,7 @@ impl Walk {
     fn passed(mut self, until: usize, octets: &[u8]) -> (WalkStep, usize)
         requires some { 0 < length octets.now }
         requires walk { IsWalk self }
-        requires place { self.place ≡ Place.InOctets until }
+        requires place { self.place ≡ Cursor.InOctets until }
         ensures leads { LeadsOn self (take result.1 octets.now) result.0 }
         ensures taken { (0 < result.1) × (result.1 ≤ length octets.now) }
     {
@@ -291,7 +291,7 @@ impl Walk {
     }
 
     /// Goes on in a value behind its header, with so many octets left.
-    fn entered(mut self, behind: Place, inner: Place, left: usize) -> Result<WalkStep, AllocError>
+    fn entered(mut self, behind: Cursor, inner: Cursor, left: usize) -> Result<WalkStep, AllocError>
         requires nested { AreNested left (inner ∷ behind ∷ reverse self.around.items) }
         requires leads { (octets : List ℕ) (end : Option ReadFault)
             → LeadsTo left (inner ∷ behind ∷ reverse self.around.items) octets end
@@ -308,7 +308,7 @@ impl Walk {
     /// What an octet adds to the header of an item.
     fn item_came(self, syntax: Syntax, levels: u8, reach: Reach) -> Result<WalkStep, AllocError>
         requires come { HasCome self }
-        requires place { self.place ≡ Place.InItems syntax levels reach }
+        requires place { self.place ≡ Cursor.InItems syntax levels reach }
         ensures { IfOk result (λ walked. LeadsOn self [] walked) }
     {
         let left = self.left_behind();
@@ -318,8 +318,12 @@ impl Walk {
             HeaderFound::Bad(fault) => Ok(WalkStep::Failed(fault, left)),
             HeaderFound::Whole(extent) => match reach.opened(extent, left) {
                 Some((inner, left)) => {
-                    let behind = Place::InItems(syntax, levels, reach);
-                    self.entered(behind, Place::InElements(syntax, levels, None, inner), left)
+                    let behind = Cursor::InItems(syntax, levels, reach);
+                    self.entered(
+                        behind,
+                        Cursor::InElements(syntax, levels, None, inner),
+                        left,
+                    )
                 }
                 None => Ok(WalkStep::Failed(ReadFault::Truncated, 0)),
             },
@@ -335,7 +339,7 @@ impl Walk {
         reach: Reach,
     ) -> Result<WalkStep, AllocError>
         requires come { HasCome self }
-        requires place { self.place ≡ Place.InElements syntax levels last reach }
+        requires place { self.place ≡ Cursor.InElements syntax levels last reach }
         ensures { IfOk result (λ walked. LeadsOn self [] walked) }
     {
         let left = self.left_behind();
@@ -346,8 +350,8 @@ impl Walk {
             HeaderFound::Whole(Header { tag, content, .. }) => {
                 match reach.opened(length_of(content), left) {
                     Some((inner, left)) => {
-                        let behind = Place::InElements(syntax, levels, Some(tag), reach);
-                        self.entered(behind, Place::of_value(content, levels, inner), left)
+                        let behind = Cursor::InElements(syntax, levels, Some(tag), reach);
+                        self.entered(behind, Cursor::of_value(content, levels, inner), left)
                     }
                     None => Ok(WalkStep::Failed(ReadFault::Truncated, 0)),
                 }
@@ -363,12 +367,12 @@ impl Walk {
         ensures taken { IfOk result (λ x. (0 < x.1) × (x.1 ≤ length octets.now)) }
     {
         match self.place {
-            Place::InOctets(until) => Ok(self.passed(until, octets)),
-            Place::InItems(syntax, levels, reach) => {
+            Cursor::InOctets(until) => Ok(self.passed(until, octets)),
+            Cursor::InItems(syntax, levels, reach) => {
                 self.front.push(octets[0])?;
                 Ok((self.item_came(syntax, levels, reach)?, 1))
             }
-            Place::InElements(syntax, levels, last, reach) => {
+            Cursor::InElements(syntax, levels, last, reach) => {
                 self.front.push(octets[0])?;
                 Ok((self.element_came(syntax, levels, last, reach)?, 1))
             }

@@ -5,7 +5,7 @@ use Rattle.dq_assoc.specs.declared.association.Held.TheVariants as code
 use Rattle.dq_assoc.specs.Associations as held
 use Rattle.dq_assoc.specs.Holding.{Stands}
 use Rattle.dq_assoc.specs.Negotiation.{context_ids}
-use Rattle.dq_assoc.proofs.Standing.{opened_stands}
+use Rattle.dq_assoc.proofs.HeldAssociations.{opened_stands}
 use Rattle.dq_assoc.proofs.association.opened.Goals as goal
 
 pub returns : goal.returns

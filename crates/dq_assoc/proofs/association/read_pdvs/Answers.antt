@@ -1,6 +1,6 @@
 use Rattle.std.proofs.Common.{sym, ◌∙◌}
 use Rattle.std.proofs.lemmas.List.{drop_all}
-use Rattle.dq_assoc.proofs.Standing.{none_reads, one_reads, fault_reads, all_reads}
+use Rattle.dq_assoc.proofs.HeldAssociations.{none_reads, one_reads, fault_reads, all_reads}
 use Rattle.dq_assoc.proofs.association.read_pdvs.Goals as goal
 
 pub loop-pdv-init : goal.loop-pdv-init

@@ -1,5 +1,5 @@
 use Rattle.std.proofs.Common.{drop}
-use Rattle.dq_assoc.proofs.Standing.{Reads}
+use Rattle.dq_assoc.proofs.HeldAssociations.{Reads}
 use Rattle.dq_assoc.proofs.association.read_pdvs.Given as goal
 
 abbrev pub invariant-loop-pdv : goal.invariant-loop-pdv

@@ -1,4 +1,4 @@
-use Rattle.dq_assoc.proofs.Standing.{took_message}
+use Rattle.dq_assoc.proofs.HeldAssociations.{took_message}
 use Rattle.dq_assoc.proofs.association.take_pdv.Goals as goal
 
 pub returns-in_ok-push-in-Ok-Some-clause-messages : goal.returns-in_ok-push-in-Ok-Some-clause-messages

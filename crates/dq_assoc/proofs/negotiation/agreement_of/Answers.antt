@@ -2,7 +2,7 @@ use Rattle.std.proofs.Common.{List, Some, None, ap, sym, ◌∙◌}
 use Rattle.std.specs.List.{filter_map}
 use Rattle.std.specs.Result.{result_ok}
 use Rattle.std.proofs.lemmas.List.{append-nil}
-use Rattle.dq_assoc.specs.declared.agreement.AgreedContext.{AgreedContext}
+use Rattle.dq_assoc.specs.declared.agreement.AcceptedContext.{AcceptedContext}
 use Rattle.dq_assoc.specs.Negotiation.{agreed_context}
 use Rattle.dq_assoc.proofs.Loops.{filter_map-next, filter_map-end}
 use Rattle.dq_assoc.proofs.negotiation.agreement_of.Goals as goal
@@ -27,6 +27,6 @@ returns c =
     let called = c.args.request.now.called in
     let items = c.as_slice-context-items.result.now in
     let all = filter_map-end agreed_context c.loop-context.contexts items c.loop-context.context-index c.loop-context-test.false c.loop-context.invariant in
-    ap (λ (list : List AgreedContext). record { contexts = list; called = called; limit = c.args.limit })
+    ap (λ (list : List AcceptedContext). record { contexts = list; called = called; limit = c.args.limit })
     (all ∙ ap (filter_map agreed_context) c.as_slice-context-items.ensures)
     ∙ ap (λ limit. record { contexts = filter_map agreed_context c.args.request.now.contexts; called = called; limit = limit }) c.requires

@@ -2,7 +2,7 @@ use Rattle.std.proofs.Common.{◌≡◌, List, ap, ◌∙◌}
 use Rattle.std.specs.Option.{option_copied}
 use Rattle.dq_pdu.specs.declared.pdu.Pdu.{Pdu}
 use Rattle.dq_core.specs.Slots.{owner_at}
-use Rattle.dq_core.specs.Tallies.{tally_of_name}
+use Rattle.dq_core.specs.OpenAssociations.{tally_of_name}
 use Rattle.dq_core.proofs.Pieces.{Laws, fed_slot, took}
 use Rattle.dq_core.proofs.connections.take_piece.Goals as goal
 

@@ -1,7 +1,7 @@
 use Rattle.std.proofs.Common.{arith, List, length, ap}
 use Rattle.std.proofs.lemmas.Bool.{false≢true}
 use Rattle.dq_core.specs.declared.event.Event.{Event}
-use Rattle.dq_core.proofs.Going.{on-err}
+use Rattle.dq_core.proofs.TableCalls.{on-err}
 use Rattle.dq_core.proofs.Running.{Stepped, ran-opens, ran-next, ran-part, ran-left, ran-faulted}
 use Rattle.dq_core.proofs.server.answer_all.Goals as goal
 

@@ -1,7 +1,7 @@
 use Rattle.std.proofs.Common.{◌≡◌, ℕ, ◌-◌, List, [], ◌∷◌, ◌++◌, length, take, drop, arith, ap, ◌∙◌}
 use Rattle.std.specs.Int.{w32, to_le_bytes}
 use Rattle.dq_dimse.specs.CommandElements.{command_group_length}
-use Rattle.dq_dimse.specs.LentCommands.{command_of_lent}
+use Rattle.dq_dimse.specs.CommandRefs.{command_of_ref}
 use Rattle.dq_dimse.specs.Sending.{command_element, command_elements}
 use Rattle.dq_dimse.proofs.sending.command_set.Goals as goal
 
@@ -19,5 +19,5 @@ counted x0 x1 x2 x3 elements count none begun added all put =
 
 pub returns : goal.returns
 returns c = counted c.in_ok-out.out.items c.put_element.new.out.items c.put_command_elements.new.out.items c.put_group_length.new.set.items
-    (command_elements (command_of_lent c.args.command)) c.put_command_elements.new.out.len c.in_ok-out.ensures.items c.in_ok-put_element.ensures
+    (command_elements (command_of_ref c.args.command)) c.put_command_elements.new.out.len c.in_ok-out.ensures.items c.in_ok-put_element.ensures
     c.in_ok-put_command_elements.ensures (omega (arith, c.put_command_elements.new.out.ok.0)) c.put_group_length.ensures

@@ -1,4 +1,4 @@
-use Rattle.dq_match.specs.declared.keys.Place.TheVariants.{Outer}
+use Rattle.dq_match.specs.declared.keys.Nesting.TheVariants.{Outer}
 use Rattle.dq_find.proofs.Matching.{matching_in_order, succeeded_in_order, answers_alone}
 use Rattle.dq_find.proofs.laws.answers_are_the_matching_records_in_order.Goals as goal
 

@@ -1,4 +1,4 @@
-use Rattle.dq_match.specs.declared.keys.Place.TheVariants.{Outer}
+use Rattle.dq_match.specs.declared.keys.Nesting.TheVariants.{Outer}
 use Rattle.dq_find.proofs.Matching.{key_above_of_match}
 use Rattle.dq_find.proofs.laws.what_matches_has_the_key_above.Goals as goal
 

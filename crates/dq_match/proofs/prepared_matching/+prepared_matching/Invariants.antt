@@ -2,7 +2,7 @@ use Rattle.std.proofs.Common.{◌≡◌, ◌+◌, ◌*◌, map, drop}
 use Rattle.std.specs.List.{list_any}
 use Rattle.dq_dataset.specs.Tree.{item_count, items_count}
 use Rattle.dq_dataset.specs.View.{as_elements, items_of}
-use Rattle.dq_match.specs.declared.keys.Place.TheVariants.{Inner}
+use Rattle.dq_match.specs.declared.keys.Nesting.TheVariants.{Inner}
 use Rattle.dq_match.specs.Matching.{each_met, all_met}
 use Rattle.dq_match.specs.Prepared.{element_of_key}
 use Rattle.dq_match.proofs.PreparedCounts.{key_count}

@@ -4,7 +4,7 @@ use Rattle.dq_match.specs.Keys.{is_key}
 use Rattle.dq_match.specs.Matching.{all_met}
 use Rattle.dq_dataset.specs.View.{has_tag}
 use Rattle.dq_dataset.proofs.Views.{as_elements-elements_of, elements_of-as_elements}
-use Rattle.dq_match.specs.declared.keys.Place.TheVariants.{Inner}
+use Rattle.dq_match.specs.declared.keys.Nesting.TheVariants.{Inner}
 use Rattle.dq_match.specs.Responses.{shown_keys, shown_element}
 use Rattle.dq_match.proofs.Showing.{shown_is_data_set, each_shown, one_shown}
 use Rattle.dq_match.proofs.responses.+shown.Goals as goal

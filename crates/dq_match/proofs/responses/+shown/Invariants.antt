@@ -2,7 +2,7 @@ use Rattle.std.proofs.Common.{◌≡◌, ◌+◌, ◌*◌, find, take, map, filt
 use Rattle.dq_dataset.specs.Tree.{item_count}
 use Rattle.dq_dataset.specs.View.{as_elements, has_tag}
 use Rattle.dq_dataset.proofs.Copies.{value_count}
-use Rattle.dq_match.specs.declared.keys.Place.TheVariants.{Inner}
+use Rattle.dq_match.specs.declared.keys.Nesting.TheVariants.{Inner}
 use Rattle.dq_match.specs.Matching.{all_met}
 use Rattle.dq_match.specs.Responses.{shown_keys, shown_element}
 use Rattle.dq_match.specs.Keys.{is_key}

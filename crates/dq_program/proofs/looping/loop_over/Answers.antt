@@ -3,7 +3,7 @@ use Rattle.std.specs.Option.{option_copied}
 use Rattle.std.specs.Io.KnownBytes.{Appends}
 use Rattle.std.proofs.lemmas.Result.{on_ok_weaker, IfErr-weaker}
 use Rattle.dq_core.specs.Histories.{opened_numbers}
-use Rattle.dq_core.specs.Standing.{StandsFor}
+use Rattle.dq_core.specs.ServerView.{Refines}
 use Rattle.dq_wires.specs.Looping.{sent_number}
 use Rattle.dq_captures.specs.Surroundings.{BreaksOff}
 use Rattle.dq_program.specs.declared.stop.Stop.{Stop}
@@ -25,7 +25,7 @@ returns g c =
     let config = c.in_ok-config.config in
     let events = c.in_ok-events.events.items in
     let all = c.as_slice.result.now in
-    let stands : StandsFor g.Rt.Memory.Tables.state [] c.in_ok-server.server [] = rw c.in_ok-memory.ensures.rows at c.in_ok-server.ensures.stands in
+    let stands : Refines g.Rt.Memory.Tables.state [] c.in_ok-server.server [] = rw c.in_ok-memory.ensures.rows at c.in_ok-server.ensures.stands in
     let played : ArePlayedOver log config events =
     played-by g.Rt.Memory.Tables.state log c.in_ok-wires.wires c.calls_are_a_serving.ensures.whole c.servings_are_answered.ensures.replies
     g.met.Rt.Stores.memory_is_honest (c.in_ok-server.ensures.institutions ∙ c.config.view_is) c.in_ok-wires.ensures.uncalled (c.in_ok-all.ensures.served [] stands) in

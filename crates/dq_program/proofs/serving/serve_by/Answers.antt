@@ -1,6 +1,6 @@
 use Rattle.std.proofs.Common.{◌≡◌, ◌∙◌, [], Some, None, ap, sym}
 use Rattle.std.specs.Option.{option_copied}
-use Rattle.dq_core.specs.Standing.{Standing, StandsFor}
+use Rattle.dq_core.specs.ServerView.{ServerView, Refines}
 use Rattle.dq_wires.specs.Servings.{Serving}
 use Rattle.dq_words.specs.Words.{callers_of, serving_in}
 use Rattle.dq_program.specs.declared.stop.Stop.{Stop}
@@ -18,10 +18,10 @@ returns-in_ok-serve_alone-in-None-clause-served g c = λ honest.
     let start = c.new-turner.ensures.server in
     let wires = c.in_ok-wires.wires in
     let log = g.N.Wired.Wires.log wires in
-    let stands : StandsFor g.T.Tables.state rows turner.server [] = rw start c.requires.begins in
+    let stands : Refines g.T.Tables.state rows turner.server [] = rw start c.requires.begins in
     let begun : Serving g.T.Tables.state rows log log turner.server turner.server turner.hold [] =
     rw c.new-turner.ensures.hold (c.calls_are_a_serving.ensures.begins rows log turner.server stands) in
-    let same : turner.server.institutions ≡ c.args.server.institutions = ap (λ (s : Standing g.row.T.Denot). s.institutions) start in
+    let same : turner.server.institutions ≡ c.args.server.institutions = ap (λ (s : ServerView g.row.T.Denot). s.institutions) start in
     let went = c.in_ok-serve_alone-in-None.ensures.went in
     rw (sym c.callers_at.ensures ∙ ap option_copied c.in-None.is, c.into_tables.ensures, c.into_server.ensures)
     (service-of g.T.Tables.state rows g.N.Wired.Wires.log g.N.Console.Wires.log wires c.serve_alone.new.wires None c.args.server.institutions went.rounds
@@ -35,10 +35,10 @@ returns-in_ok-serve_beside-in-Some-clause-served g c = λ honest.
     let start = c.new-turner-in-Some.ensures.server in
     let wires = c.desk_beside.new.wires in
     let log = g.N.Wired.Wires.log wires in
-    let stands : StandsFor g.T.Tables.state rows turner.server [] = rw start c.requires.begins in
+    let stands : Refines g.T.Tables.state rows turner.server [] = rw start c.requires.begins in
     let begun : Serving g.T.Tables.state rows log log turner.server turner.server turner.hold [] =
     rw c.new-turner-in-Some.ensures.hold (c.calls_are_a_serving.ensures.begins rows log turner.server stands) in
-    let same : turner.server.institutions ≡ c.args.server.institutions = ap (λ (s : Standing g.row.T.Denot). s.institutions) start in
+    let same : turner.server.institutions ≡ c.args.server.institutions = ap (λ (s : ServerView g.row.T.Denot). s.institutions) start in
     let went = c.in_ok-serve_beside-in-Some.ensures.went in
     let desk = c.in_ok-desk-in-Some.ensures in
     let told : RoundsTell turner.server.institutions c.in_ok-desk-in-Some.desk.clerk.names.items rows [] went.rounds =
@@ -78,10 +78,10 @@ returns-in_err-serve_alone-in-None-clause-ends g c =
     let start = c.new-turner.ensures.server in
     let wires = c.in_ok-wires.wires in
     let log = g.N.Wired.Wires.log wires in
-    let stands : StandsFor g.T.Tables.state rows turner.server [] = rw start c.requires.begins in
+    let stands : Refines g.T.Tables.state rows turner.server [] = rw start c.requires.begins in
     let begun : Serving g.T.Tables.state rows log log turner.server turner.server turner.hold [] =
     rw c.new-turner.ensures.hold (c.calls_are_a_serving.ensures.begins rows log turner.server stands) in
-    let same : turner.server.institutions ≡ c.args.server.institutions = ap (λ (s : Standing g.row.T.Denot). s.institutions) start in
+    let same : turner.server.institutions ≡ c.args.server.institutions = ap (λ (s : ServerView g.row.T.Denot). s.institutions) start in
     let off = c.in_err-serve_alone-in-None.ensures.cut in
     if_error _ c.from_residual-in_err-serve_alone-in-None.result _ c.from_residual-in_err-serve_alone-in-None.ensures.1
     (cut-ends _ (g.W.Sink.may_fail c.args.output.now) _ _ c.args.service.port IsSo _ _ c.in_ok-put_ready-in-None.ensures.ready off.causes (λ honest. rw (sym c.callers_at.ensures ∙ ap option_copied c.in-None.is)
@@ -97,10 +97,10 @@ returns-in_err-serve_beside-in-Some-clause-ends g c =
     let start = c.new-turner-in-Some.ensures.server in
     let wires = c.desk_beside.new.wires in
     let log = g.N.Wired.Wires.log wires in
-    let stands : StandsFor g.T.Tables.state rows turner.server [] = rw start c.requires.begins in
+    let stands : Refines g.T.Tables.state rows turner.server [] = rw start c.requires.begins in
     let begun : Serving g.T.Tables.state rows log log turner.server turner.server turner.hold [] =
     rw c.new-turner-in-Some.ensures.hold (c.calls_are_a_serving.ensures.begins rows log turner.server stands) in
-    let same : turner.server.institutions ≡ c.args.server.institutions = ap (λ (s : Standing g.row.T.Denot). s.institutions) start in
+    let same : turner.server.institutions ≡ c.args.server.institutions = ap (λ (s : ServerView g.row.T.Denot). s.institutions) start in
     let off = c.in_err-serve_beside-in-Some.ensures.cut in
     let desk = c.in_ok-desk-in-Some.ensures in
     let told : AreHonest g.T.Tables.state → RoundsTell turner.server.institutions c.in_ok-desk-in-Some.desk.clerk.names.items rows [] off.rounds

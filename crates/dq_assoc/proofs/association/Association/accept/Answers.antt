@@ -5,7 +5,7 @@ use Rattle.dq_assoc.specs.declared.association.Step.{Step}
 use Rattle.dq_assoc.specs.Holding.{IsStep}
 use Rattle.dq_assoc.specs.Steps.{step_of}
 use Rattle.dq_assoc.specs.Table.{requested_line}
-use Rattle.dq_assoc.proofs.Standing.{accepted_given}
+use Rattle.dq_assoc.proofs.HeldAssociations.{accepted_given}
 use Rattle.dq_assoc.proofs.association.Association.accept.Goals as goal
 
 pub returns-in-Ok-clause-step : goal.returns-in-Ok-clause-step

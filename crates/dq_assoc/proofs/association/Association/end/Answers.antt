@@ -5,7 +5,7 @@ use Rattle.dq_assoc.specs.declared.association.State.{State}
 use Rattle.dq_assoc.specs.After.{inputs_from}
 use Rattle.dq_assoc.specs.Holding.{IsStep, accepted_in, held_agreement, is_unspent}
 use Rattle.dq_assoc.specs.Steps.{step_of_inputs, open_outcome}
-use Rattle.dq_assoc.proofs.Standing.{after_none, after_some, stands_sound, stands_state}
+use Rattle.dq_assoc.proofs.HeldAssociations.{after_none, after_some, stands_sound, stands_state}
 use Rattle.dq_assoc.proofs.association.Association.end.Goals as goal
 
 pub returns-in-None-clause-step : goal.returns-in-None-clause-step

@@ -3,7 +3,7 @@ use Rattle.dq_assoc.specs.declared.association.Held.{Held}
 use Rattle.dq_assoc.specs.declared.association.State.{State}
 use Rattle.dq_assoc.specs.Holding.{is_unspent}
 use Rattle.dq_assoc.specs.Steps.{fault_answer}
-use Rattle.dq_assoc.proofs.Standing.{fault_leads, stands_sound, stands_state}
+use Rattle.dq_assoc.proofs.HeldAssociations.{fault_leads, stands_sound, stands_state}
 use Rattle.dq_assoc.proofs.association.Association.stop.Goals as goal
 
 pub returns-clause-step : goal.returns-clause-step

@@ -1,7 +1,7 @@
 use Rattle.std.proofs.Common.{sym, ◌∙◌}
 use Rattle.dq_dimse.specs.Assembling.{messages_from, assembly_from}
 use Rattle.dq_assoc.proofs.Sound.{pdvs-closed, pdvs-open}
-use Rattle.dq_assoc.proofs.Standing.{on_ok, pdvs_read}
+use Rattle.dq_assoc.proofs.HeldAssociations.{on_ok, pdvs_read}
 use Rattle.dq_assoc.proofs.association.Association.take_pdvs.Goals as goal
 
 pub returns-then-read-clause-exact : goal.returns-then-read-clause-exact

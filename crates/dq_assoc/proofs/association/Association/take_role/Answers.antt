@@ -1,7 +1,7 @@
 use Rattle.std.proofs.Common.{IsTrue, subst, ◌∙◌}
 use Rattle.dq_assoc.specs.declared.association.Held.{Held}
 use Rattle.dq_assoc.specs.Holding.{is_unspent}
-use Rattle.dq_assoc.proofs.Standing.{carried_step, closed_default}
+use Rattle.dq_assoc.proofs.HeldAssociations.{carried_step, closed_default}
 use Rattle.dq_assoc.proofs.association.Association.take_role.Goals as goal
 
 pub returns-in-Carries-clause-step : goal.returns-in-Carries-clause-step

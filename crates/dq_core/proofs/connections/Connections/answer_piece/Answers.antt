@@ -13,8 +13,8 @@ use Rattle.dq_core.specs.Stepping.{MayLeaveAfter}
 use Rattle.dq_core.specs.Queries.{query_by, IsToldBy}
 use Rattle.dq_core.specs.Shared.{operations_by}
 use Rattle.dq_core.specs.Slots.{connection_answer}
-use Rattle.dq_core.specs.Tallies.{retallied_by}
-use Rattle.dq_core.proofs.Going.{on-err}
+use Rattle.dq_core.specs.OpenAssociations.{retallied_by}
+use Rattle.dq_core.proofs.TableCalls.{on-err}
 use Rattle.dq_core.specs.declared.event.Reply.TheVariants as reply
 use Rattle.dq_core.proofs.Turning.{piece-none, piece-empty, TookAny, told, Moves, begun-as-taken, IsMiddle, piece-taken, piece-part, closes, stays-open, not-there, is-empty, not-quiet, not-always}
 use Rattle.dq_core.proofs.Turning.{same-slot, still-there, taken-log, written-twice}

@@ -5,7 +5,7 @@ use Rattle.dq_core.specs.declared.event.Reply.TheVariants as reply
 use Rattle.dq_core.specs.Pages.{next_page}
 use Rattle.dq_core.specs.Slots.{query_at}
 use Rattle.dq_core.specs.Stepping.{MayLeaveAfter}
-use Rattle.dq_core.proofs.Going.{on-err}
+use Rattle.dq_core.proofs.TableCalls.{on-err}
 use Rattle.dq_core.proofs.Turning.{vacant, pull-none, pull-part, pull-answered, pulled-asks, not-pending, no-search}
 use Rattle.dq_core.proofs.connections.Connections.answer_pull.Goals as goal
 

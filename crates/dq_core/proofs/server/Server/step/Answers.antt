@@ -1,6 +1,6 @@
 use Rattle.std.proofs.Common.{refl, sym, ◌∙◌}
 use Rattle.dq_core.specs.Shared.{world_after}
-use Rattle.dq_core.proofs.Standing.{stands-next, still-working}
+use Rattle.dq_core.proofs.Refinement.{stands-next, still-working}
 use Rattle.dq_core.proofs.server.Server.step.Goals as goal
 
 pub returns-in-Ok-clause-stands : goal.returns-in-Ok-clause-stands

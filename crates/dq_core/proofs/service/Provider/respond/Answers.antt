@@ -6,7 +6,7 @@ use Rattle.dq_tables.specs.declared.row.Row.{Row}
 use Rattle.dq_core.specs.Pages.{rest}
 use Rattle.dq_core.specs.Stepping.{MayLeaveAfter}
 use Rattle.dq_core.specs.Queries.{open_query_of, records_since, query_then}
-use Rattle.dq_core.proofs.Going.{part-left}
+use Rattle.dq_core.proofs.TableCalls.{part-left}
 use Rattle.dq_core.proofs.Lookback.{query_since, settled-read, goes-after-read}
 use Rattle.dq_core.proofs.Serving.{code_stands, id_stands, did-cancelled, did-after, part-after}
 use Rattle.dq_core.proofs.service.Provider.respond.Goals as goal

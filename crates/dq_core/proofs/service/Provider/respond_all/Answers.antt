@@ -1,7 +1,7 @@
 use Rattle.std.proofs.Common.{sym, ◌∙◌}
 use Rattle.std.proofs.lemmas.List.{nil_from_length}
 use Rattle.dq_core.specs.Stepping.{MayLeaveAfter}
-use Rattle.dq_core.proofs.Going.{goes-then, on-err, part-left, left-then}
+use Rattle.dq_core.proofs.TableCalls.{goes-then, on-err, part-left, left-then}
 use Rattle.dq_core.proofs.Composing.{held-next, held-part, held-all}
 use Rattle.dq_core.proofs.Telling.{told_then}
 use Rattle.dq_core.proofs.service.Provider.respond_all.Goals as goal

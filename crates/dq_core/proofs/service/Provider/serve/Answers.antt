@@ -5,7 +5,7 @@ use Rattle.dq_tables.specs.Rows.{Record, of}
 use Rattle.dq_core.specs.declared.pages.OpenQuery.{OpenQuery as HeldQuery}
 use Rattle.dq_core.specs.Stepping.{MayLeaveAfter}
 use Rattle.dq_core.specs.Queries.{found_left, open_query_of, records_since, query_then}
-use Rattle.dq_core.proofs.Going.{on-err}
+use Rattle.dq_core.proofs.TableCalls.{on-err}
 use Rattle.dq_core.proofs.Lookback.{records_now}
 use Rattle.dq_core.proofs.Serving.{did-stray, did-cancel, did-served, part-served, part-unserved}
 use Rattle.dq_core.proofs.Serving.{context_stands, stands_there, code_stands, unsent_stands}

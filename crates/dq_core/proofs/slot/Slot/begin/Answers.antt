@@ -4,14 +4,14 @@ use Rattle.std.proofs.lemmas.Bool.Decides.{nat_tests}
 use Rattle.std.proofs.lemmas.List.{nil_from_length}
 use Rattle.dq_pdu.specs.declared.pdu.Pdu.{Pdu}
 use Rattle.dq_dimse.specs.Received.{Message}
-use Rattle.dq_dimse.specs.Holding.{StandForAll}
+use Rattle.dq_dimse.specs.Holding.{AllRefine}
 use Rattle.dq_assoc.specs.declared.agreement.Agreement.{Agreement}
 use Rattle.dq_assoc.specs.declared.association.State.TheVariants.{Waiting}
 use Rattle.dq_assoc.specs.After.{inputs_from}
 use Rattle.dq_assoc.specs.Associations as held
 use Rattle.dq_assoc.specs.Holding.{IsStep, accepted_in, held_agreement}
 use Rattle.dq_assoc.specs.Steps.{step_of_inputs}
-use Rattle.dq_core.specs.Doing.{taken_inputs}
+use Rattle.dq_core.specs.Effects.{taken_inputs}
 use Rattle.dq_core.specs.Slots.{IsTaken}
 use Rattle.dq_core.proofs.Taking.{misplaced, none_held, nothing_stands, taken_alone, taken_none, waiting_stands}
 use Rattle.dq_core.proofs.slot.Slot.begin.Goals as goal
@@ -49,7 +49,7 @@ returns-in_ok-take-in_default c =
           c.into_inner-pdus.ensures
           (taken_alone agreement verdict held.Waiting pdus fault opening first pure c.empty-in_default.ensures m.taken_is stands);
       agreement = inl (none_held (accepted_in agreement) first.messages
-          (subst (λ (ms : List Message). StandForAll (accepted_in agreement) first.messages ms) m.messages_are stands.messages));
+          (subst (λ (ms : List Message). AllRefine (accepted_in agreement) first.messages ms) m.messages_are stands.messages));
       stands = λ s n e. absurd (false≢true (sym e ∙ stands.close ∙ m.closes));
       keeps = (refl, refl, refl);
     }

@@ -2,7 +2,7 @@ use Rattle.std.proofs.Common.{◌≡◌, ◌∙◌, false, None, sym, ap}
 use Rattle.std.specs.List.{list_all}
 use Rattle.dq_dataset.specs.View.{elements_of}
 use Rattle.dq_match.specs.AsLent.{is_met_at_once}
-use Rattle.dq_match.specs.declared.keys.Place.TheVariants.{Outer}
+use Rattle.dq_match.specs.declared.keys.Nesting.TheVariants.{Outer}
 use Rattle.dq_tables.specs.Records.{data_set_of}
 use Rattle.dq_archive.specs.Pasts.{records_in}
 use Rattle.dq_archive.proofs.LookingBack.{looks_nothing}

@@ -2,7 +2,7 @@ use Rattle.std.proofs.Common.{◌∙◌, sym}
 use Rattle.std.specs.List.{list_all}
 use Rattle.dq_dataset.specs.View.{elements_of}
 use Rattle.dq_match.specs.AsLent.{is_met_at_once}
-use Rattle.dq_match.specs.declared.keys.Place.TheVariants.{Outer}
+use Rattle.dq_match.specs.declared.keys.Nesting.TheVariants.{Outer}
 use Rattle.dq_match.proofs.Alone.{unless}
 use Rattle.dq_tables.specs.Records.{data_set_of}
 use Rattle.dq_find.proofs.Answering.{met_later, not_met}

@@ -1,6 +1,6 @@
 use Rattle.std.proofs.Common.{◌∙◌, map, refl, sym, ap}
 use Rattle.std.specs.List.{filter_map}
-use Rattle.dq_match.specs.declared.keys.Place.TheVariants.{Outer}
+use Rattle.dq_match.specs.declared.keys.Nesting.TheVariants.{Outer}
 use Rattle.dq_tables.specs.declared.row.Row.{Row}
 use Rattle.dq_tables.proofs.Calling.{reads_nothing, reads_right}
 use Rattle.dq_archive.specs.Pasts.{state_in, records_in}

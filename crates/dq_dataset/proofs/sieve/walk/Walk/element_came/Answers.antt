@@ -1,12 +1,12 @@
 use Rattle.std.proofs.Common.{sym, subst}
-use Rattle.dq_dataset.specs.declared.sieve.walk.Place.{Place}
+use Rattle.dq_dataset.specs.declared.sieve.walk.Cursor.{Cursor}
 use Rattle.dq_dataset.specs.Sifting.{IsPart}
 use Rattle.dq_dataset.proofs.WalkHeaders.{whole_header, element_ends_here, element_fails, element_too_long, element_nested, element_leads}
 use Rattle.dq_dataset.proofs.sieve.walk.Walk.element_came.Goals as goal
 
 pub waiting-requires-clause-part : goal.waiting-requires-clause-part
 waiting-requires-clause-part c =
-    subst (λ (p : Place). IsPart p c.args.self.front.items) (sym c.requires.place) (rw c.deref.ensures.value at c.in-Part.ensures.met)
+    subst (λ (p : Cursor). IsPart p c.args.self.front.items) (sym c.requires.place) (rw c.deref.ensures.value at c.in-Part.ensures.met)
 
 pub ended-requires-clause-ends : goal.ended-requires-clause-ends
 ended-requires-clause-ends c =
