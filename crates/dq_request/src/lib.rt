@@ -9,5 +9,5 @@ mod response;
 mod search;
 
 pub use request::Request;
-pub use response::{Cause, Counted, Counts, Response, Uncopied};
+pub use response::{BackupError, Cause, Counted, Counts, Response};
 pub use search::{Key, Search, ShownPage, Subject};

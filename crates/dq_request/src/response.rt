@@ -1,6 +1,6 @@
 //! What is answered.
 ghost use Rattle.std.specs.Prelude.{◌≡◌, IfOk, string_bytes};
-ghost use Rattle.dq_request.specs.Responses.{cause_text, uncopied_word};
+ghost use Rattle.dq_request.specs.Responses.{cause_text, backup_error_word};
 
 use dq_dataset::DataSet;
 use dq_list::Listed;
@@ -25,7 +25,7 @@ pub struct Counted {
 
 /// The reason why the rows were not copied.
 #[derive(Clone, Copy, Debug, PartialEq, Eq)]
-pub enum Uncopied {
+pub enum BackupError {
     /// There is something at the path already.
     Taken,
     /// The disk is full.
@@ -47,7 +47,7 @@ pub enum Cause {
     /// No institution has the name.
     Institution,
     /// All rows are not copied.
-    Copy(Uncopied),
+    Copy(BackupError),
 }
 
 /// What is answered to a request.
@@ -63,16 +63,16 @@ pub enum Response {
     Refused(Cause),
 }
 
-impl Uncopied {
+impl BackupError {
     fn word(self) -> &'static str
-        ensures { result.now ≡ uncopied_word self }
+        ensures { result.now ≡ backup_error_word self }
     {
         match self {
-            Uncopied::Taken => "taken",
-            Uncopied::Full => "full",
-            Uncopied::Failed => "failed",
-            Uncopied::NoMemory => "memory",
-            Uncopied::NoStore => "no store",
+            BackupError::Taken => "taken",
+            BackupError::Full => "full",
+            BackupError::Failed => "failed",
+            BackupError::NoMemory => "memory",
+            BackupError::NoStore => "no store",
         }
     }
 }

@@ -1,10 +1,10 @@
 //! What the program needs of the machine.
+use dq_app::{Host, OpenError, Stores, Unclosed};
 use dq_keepers::{
     CopyFault, RowsInFile, RowsInMemory, back_up, close_store, copy_store, create_store,
     migrate_store, open_store,
 };
-use dq_program::{Host, Stores, Unclosed, Unkept};
-use dq_request::Uncopied;
+use dq_request::BackupError;
 use dq_sql::{MigrateFault, StoreFault};
 use dq_tables::Tables;
 use sqlite::{FileFrom, Wary};
@@ -32,28 +32,28 @@ impl Host for Machine<'_> {
 }
 
 /// Why there is no store.
-fn unkept(fault: StoreFault) -> Unkept {
+fn open_error(fault: StoreFault) -> OpenError {
     match fault {
-        StoreFault::NoMemory => Unkept::NoMemory,
-        other => Unkept::Store(other.number()),
+        StoreFault::NoMemory => OpenError::NoMemory,
+        other => OpenError::Store(other.number()),
     }
 }
 
 /// Why a store is not migrated.
-fn unmigrated(fault: MigrateFault) -> Unkept {
+fn migrate_error(fault: MigrateFault) -> OpenError {
     match fault {
-        MigrateFault::NoMemory => Unkept::NoMemory,
-        other => Unkept::Store(other.number()),
+        MigrateFault::NoMemory => OpenError::NoMemory,
+        other => OpenError::Store(other.number()),
     }
 }
 
 /// Why a store is not copied.
-fn uncopied(fault: CopyFault) -> Uncopied {
+fn backup_error(fault: CopyFault) -> BackupError {
     match fault {
-        CopyFault::Taken => Uncopied::Taken,
-        CopyFault::Full => Uncopied::Full,
-        CopyFault::Failed => Uncopied::Failed,
-        CopyFault::NoMemory => Uncopied::NoMemory,
+        CopyFault::Taken => BackupError::Taken,
+        CopyFault::Full => BackupError::Full,
+        CopyFault::Failed => BackupError::Failed,
+        CopyFault::NoMemory => BackupError::NoMemory,
     }
 }
 
@@ -76,31 +76,31 @@ impl Stores for Machine<'_> {
 
     ghost closed = { λ _ rows. IsClosed ⟦<FileFrom<Wary> as Disk>⟧ rows };
 
-    fn memory(&self, alloc: Global) -> Result<Self::Memory, Unkept> {
+    fn memory(&self, alloc: Global) -> Result<Self::Memory, OpenError> {
         match RowsInMemory::new(alloc) {
             Ok(tables) => Ok(tables),
-            Err(AllocError) => Err(Unkept::NoMemory),
+            Err(AllocError) => Err(OpenError::NoMemory),
         }
     }
 
-    fn new_store(&self, alloc: Global, path: &str) -> Result<Self::File, Unkept> {
+    fn new_store(&self, alloc: Global, path: &str) -> Result<Self::File, OpenError> {
         match create_store(self.rt, alloc, path) {
             Ok(tables) => Ok(RowsInFile { tables }),
-            Err(fault) => Err(unkept(fault)),
+            Err(fault) => Err(open_error(fault)),
         }
     }
 
-    fn store(&self, alloc: Global, path: &str) -> Result<Self::File, Unkept> {
+    fn store(&self, alloc: Global, path: &str) -> Result<Self::File, OpenError> {
         match open_store(self.rt, alloc, path) {
             Ok(tables) => Ok(RowsInFile { tables }),
-            Err(fault) => Err(unkept(fault)),
+            Err(fault) => Err(open_error(fault)),
         }
     }
 
-    fn migrate(&self, alloc: Global, from: &str, to: &str) -> Result<Self::File, Unkept> {
+    fn migrate(&self, alloc: Global, from: &str, to: &str) -> Result<Self::File, OpenError> {
         match migrate_store(self.rt, alloc, from, to) {
             Ok(tables) => Ok(RowsInFile { tables }),
-            Err(fault) => Err(unmigrated(fault)),
+            Err(fault) => Err(migrate_error(fault)),
         }
     }
 
@@ -110,18 +110,23 @@ impl Stores for Machine<'_> {
         from: &str,
         to: &str,
         only: &[&str],
-    ) -> Result<Result<u64, Unclosed>, Unkept> {
+    ) -> Result<Result<u64, Unclosed>, OpenError> {
         match copy_store::<Wary>(self.rt, alloc, from, to, only) {
             Ok(Ok(count)) => Ok(Ok(count)),
             Ok(Err(_)) => Ok(Err(Unclosed)),
-            Err(fault) => Err(unkept(fault)),
+            Err(fault) => Err(open_error(fault)),
         }
     }
 
-    fn backup(&self, alloc: Global, tables: &mut Self::File, path: &str) -> Result<(), Uncopied> {
+    fn backup(
+        &self,
+        alloc: Global,
+        tables: &mut Self::File,
+        path: &str,
+    ) -> Result<(), BackupError> {
         match back_up(self.rt, alloc, &mut tables.tables, path) {
             Ok(()) => Ok(()),
-            Err(fault) => Err(uncopied(fault)),
+            Err(fault) => Err(backup_error(fault)),
         }
     }
 

@@ -3,7 +3,7 @@
 
 mod machine;
 
-use dq_program::{Sink, Source, play_on, unworded};
+use dq_app::{Sink, Source, play_on, unworded};
 use machine::Machine;
 use std::env;
 use std::io::{self, BufWriter, Write};

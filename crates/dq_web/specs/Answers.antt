@@ -14,15 +14,15 @@ use Rattle.dq_request.specs.declared.response.Counted.{Counted}
 use Rattle.dq_request.specs.declared.response.Counts.{Counts}
 use Rattle.dq_request.specs.declared.response.Response.{Response}
 use Rattle.dq_request.specs.declared.response.Response.TheVariants as told
-use Rattle.dq_request.specs.declared.response.Uncopied.{Uncopied}
-use Rattle.dq_request.specs.declared.response.Uncopied.TheVariants as uncopied
+use Rattle.dq_request.specs.declared.response.BackupError.{BackupError}
+use Rattle.dq_request.specs.declared.response.BackupError.TheVariants as backup_error
 use Rattle.dq_request.specs.declared.search.ShownPage.{ShownPage}
 use Rattle.dq_request.specs.Responses.{cause_text}
-use Rattle.dq_web.specs.declared.asking.Document.{Document}
-use Rattle.dq_web.specs.declared.asking.Document.TheVariants as document
-use Rattle.dq_web.specs.declared.asking.Question.{Question}
-use Rattle.dq_web.specs.declared.asking.Wish.{Wish}
-use Rattle.dq_web.specs.declared.answering.TheConstants.{STUDIES, SERIES, IMAGES, ENTRIES, STEPS, LIMIT, CLOSE}
+use Rattle.dq_web.specs.declared.parsed_request.Document.{Document}
+use Rattle.dq_web.specs.declared.parsed_request.Document.TheVariants as document
+use Rattle.dq_web.specs.declared.parsed_request.Question.{Question}
+use Rattle.dq_web.specs.declared.parsed_request.Wish.{Wish}
+use Rattle.dq_web.specs.declared.responses.TheConstants.{STUDIES, SERIES, IMAGES, ENTRIES, STEPS, LIMIT, CLOSE}
 use Rattle.dq_web.specs.declared.page.index.TheConstants.{INDEX}
 use Rattle.dq_web.specs.declared.page.script.TheConstants.{SCRIPT}
 use Rattle.dq_web.specs.declared.page.style.TheConstants.{STYLE}
@@ -76,12 +76,12 @@ abbrev pub search_status : ℕ → Status
 search_status number = if number == 0xA700 then status.TooLarge else status.BadRequest
 
 -- the status of a copy that is refused
-abbrev pub copy_status : Uncopied → Status
-copy_status uncopied.Taken = status.Conflict
-copy_status uncopied.NoStore = status.Conflict
-copy_status uncopied.Full = status.Full
-copy_status uncopied.NoMemory = status.Unavailable
-copy_status uncopied.Failed = status.ServerError
+abbrev pub copy_status : BackupError → Status
+copy_status backup_error.Taken = status.Conflict
+copy_status backup_error.NoStore = status.Conflict
+copy_status backup_error.Full = status.Full
+copy_status backup_error.NoMemory = status.Unavailable
+copy_status backup_error.Failed = status.ServerError
 
 abbrev pub cause_status : Cause → Status
 cause_status (cause.Order number) = order_status number

@@ -1,8 +1,8 @@
 pub mod Answers
-pub mod Asking
+pub mod ParsedRequests
 pub mod Counting
 pub mod Guards
 pub mod KeyFiles
-pub mod Places
+pub mod Resources
 pub mod Requests
 pub mod Responses

@@ -7,8 +7,8 @@ ghost use Rattle.dq_web.specs.Requests.{is_named};
 
 use crate::cutting::{Fields, is_named};
 use crate::keys::{Keys, at_space};
-use crate::places::behind;
 use crate::refusal::Refusal;
+use crate::resource::behind;
 use dq_list::Listed;
 
 /// What the front admits: the keys, and a host of its own beside those of the loopback.

@@ -4,11 +4,11 @@ ghost use Rattle.std.specs.Prelude.{◌≡◌, ◌≢◌, ℕ, List, String, cod
 ghost use Rattle.std.specs.Global.{Global};
 ghost use Rattle.dq_request.specs.declared.request.Request.TheVariants as ask;
 ghost use Rattle.dq_request.specs.declared.search.Search.{Search};
-ghost use Rattle.dq_web.specs.declared.asking.Asked.TheVariants as asked;
-ghost use Rattle.dq_web.specs.declared.asking.Question.{Question};
+ghost use Rattle.dq_web.specs.declared.parsed_request.ParsedRequest.TheVariants as asked;
+ghost use Rattle.dq_web.specs.declared.parsed_request.Question.{Question};
 ghost use Rattle.dq_web.specs.declared.cutting.HttpRequest.{HttpRequest};
 ghost use Rattle.dq_web.specs.declared.guard.Guard.{Guard};
-ghost use Rattle.dq_web.specs.Asking.{IsAsked, IsQuestion, IsLook, IsBelow, IsScheduling, IsWithdrawing, IsBackingUp, owner_of_request};
+ghost use Rattle.dq_web.specs.ParsedRequests.{IsAsked, IsQuestion, IsLook, IsBelow, IsScheduling, IsWithdrawing, IsBackingUp, owner_of_request};
 ghost use Rattle.dq_web.specs.Guards.{IsOpened};
 
 /// Without a key of the institution that it names, or of the operator where it names none, nothing is asked.

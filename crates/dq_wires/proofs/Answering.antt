@@ -9,14 +9,14 @@ use Rattle.dq_core.specs.declared.event.Event.TheVariants.{Open, Piece, End, Pul
 use Rattle.dq_core.specs.declared.event.Reply.{Reply}
 use Rattle.dq_core.specs.Own.{is_on_connection, replies_at}
 use Rattle.dq_core.specs.Shared.{World, turn, world_after_turn, replies_from}
-use Rattle.dq_wires.specs.Held.{HeldWire, reply_octets}
+use Rattle.dq_wires.specs.HeldConnections.{HeldConnection, reply_octets}
 use Rattle.dq_wires.specs.Steps.{Step, events_of, replies_of}
 use Rattle.dq_wires.specs.Steps.Step.{Answered, Asked}
-use Rattle.dq_wires.specs.Deeds.{Deed, deed_steps, Break}
-use Rattle.dq_wires.specs.Deeds.Deed.{Sent, Broke, Lost, Closed, Heard, Silent, Pulled, Left}
-use Rattle.dq_wires.specs.Turns.{Done, wire_of, done_steps, wires_kept, Hold, Taking, taking_steps, with_taken, Turn, IsTurn, turn_steps, after_turn, Cut, IsMidway, IsCut, cut_steps}
-use Rattle.dq_wires.specs.Turns.Taking.{Full, Nobody, ReadOutcome}
-use Rattle.dq_wires.specs.Turns.Cut.{NoRoom, Unaccepted, Unopened, Midway}
+use Rattle.dq_wires.specs.ConnectionActions.{ConnectionAction, action_steps, Break}
+use Rattle.dq_wires.specs.ConnectionActions.ConnectionAction.{Sent, WriteFailed, LastWriteFailed, Closed, Received, Idle, Pulled, PeerLeft}
+use Rattle.dq_wires.specs.Turns.{Done, connection_of, done_steps, connections_kept, Hold, Taking, taking_steps, with_taken, Turn, IsTurn, turn_steps, after_turn, Cut, IsMidway, IsCut, cut_steps}
+use Rattle.dq_wires.specs.Turns.Taking.{Full, Nobody, NewConnection}
+use Rattle.dq_wires.specs.Turns.Cut.{NoRoom, AcceptFailed, OpenFailed, Midway}
 use Rattle.dq_wires.specs.Octets.{answered_in, written_in, lost_in, on, held_on, done_on, RisesTo, IsNumbered}
 use Rattle.dq_wires.specs.Turners.{IsOrder}
 use Rattle.dq_wires.specs.Servings.{Act, act_steps, act_done, AreActs, after_acts, cut_done, served_steps, served_done}
@@ -92,34 +92,34 @@ quiet-later [] later q = q
 quiet-later (Answered event reply ∷ first) later q = quiet-later first later q.1
 quiet-later (Asked number pending ∷ first) later q = quiet-later first later q
 
--- the answers at the steps of a deed
+-- the answers at the steps of an action
 one-answer : (b : Bool) (octets : List ℕ)
     → (if b then octets else []) ++ (let none : List ℕ = [] in none) ≡ (if b then octets ++ [] else [])
 one-answer true octets = refl
 one-answer false octets = refl
 
-deed-answers : (n : ℕ) (wire : HeldWire) (deed : Deed)
-    → answers n (deed_steps wire deed) ≡ on n wire.number (flat_map reply_octets (replies_of (deed_steps wire deed)))
-deed-answers n wire (Sent count) = sym (nothing-on (wire.number == n))
-deed-answers n wire (Broke reply shut) = one-answer (wire.number == n) (reply_octets reply)
-deed-answers n wire (Lost shut) = sym (nothing-on (wire.number == n))
-deed-answers n wire (Closed shut) = sym (nothing-on (wire.number == n))
-deed-answers n wire (Heard octets reply) = one-answer (wire.number == n) (reply_octets reply)
-deed-answers n wire Silent = sym (nothing-on (wire.number == n))
-deed-answers n wire (Pulled reply) = one-answer (wire.number == n) (reply_octets reply)
-deed-answers n wire (Left came reply shut) = one-answer (wire.number == n) (reply_octets reply)
+action-answers : (n : ℕ) (wire : HeldConnection) (action : ConnectionAction)
+    → answers n (action_steps wire action) ≡ on n wire.number (flat_map reply_octets (replies_of (action_steps wire action)))
+action-answers n wire (Sent count) = sym (nothing-on (wire.number == n))
+action-answers n wire (WriteFailed reply shut) = one-answer (wire.number == n) (reply_octets reply)
+action-answers n wire (LastWriteFailed shut) = sym (nothing-on (wire.number == n))
+action-answers n wire (Closed shut) = sym (nothing-on (wire.number == n))
+action-answers n wire (Received octets reply) = one-answer (wire.number == n) (reply_octets reply)
+action-answers n wire Idle = sym (nothing-on (wire.number == n))
+action-answers n wire (Pulled reply) = one-answer (wire.number == n) (reply_octets reply)
+action-answers n wire (PeerLeft came reply shut) = one-answer (wire.number == n) (reply_octets reply)
 
 round-answers : (n : ℕ) (done : List Done) → answers n (flat_map done_steps done) ≡ done_on n answered_in done
 round-answers n [] = refl
 round-answers n (d ∷ done) =
     answers-append n (done_steps d) (flat_map done_steps done)
-    ∙ ap (λ x. x ++ answers n (flat_map done_steps done)) (deed-answers n d.wire d.deed)
+    ∙ ap (λ x. x ++ answers n (flat_map done_steps done)) (action-answers n d.wire d.action)
     ∙ ap (λ x. on n d.wire.number (answered_in d) ++ x) (round-answers n done)
 
 taking-answers : (n : ℕ) (taking : Taking) → IsQuiet (taking_steps taking) → answers n (taking_steps taking) ≡ []
 taking-answers n Full q = refl
 taking-answers n Nobody q = refl
-taking-answers n (ReadOutcome place number reply) q = rw (q.0, nothing-on (number == n)) refl
+taking-answers n (NewConnection place number reply) q = rw (q.0, nothing-on (number == n)) refl
 
 begun-answers : (n : ℕ) (taking : Taking) (done : List Done) → IsQuiet (taking_steps taking ++ flat_map done_steps done)
     → answers n (taking_steps taking ++ flat_map done_steps done) ≡ done_on n answered_in done
@@ -132,16 +132,16 @@ abbrev pub Begun : ℕ → Hold → List Step → List Done → Type 0
 Begun n h steps done = (rest : List ℕ) × (held_on n h.held ++ answers n steps ≡ done_on n written_in done ++ rest)
 
 -- the first of them have rising numbers
-rises-front : (first later : List HeldWire) (low high : ℕ) → RisesTo low high (first ++ later)
+rises-front : (first later : List HeldConnection) (low high : ℕ) → RisesTo low high (first ++ later)
     → (m : ℕ) × RisesTo low m first
 rises-front [] later low high r = (low, omega arith)
 rises-front (w ∷ first) later low high r = let p = rises-front first later w.number high r.1 in (p.0, (r.0, p.1))
 
 -- a number is absent from the first or from the others
-one-absent : (n : ℕ) (first later : List HeldWire) (low high : ℕ) → RisesTo low high (first ++ later) → IsAbsent n first ⊎ IsAbsent n later
+one-absent : (n : ℕ) (first later : List HeldConnection) (low high : ℕ) → RisesTo low high (first ++ later) → IsAbsent n first ⊎ IsAbsent n later
 one-absent n [] later low high r = inl tt
 one-absent n (w ∷ first) later low high r = by (w.number == n) refl (one-absent n first later w.number high r.1) where
-  after : (held : List HeldWire) (from : ℕ) → n ≤ from → RisesTo from high (held ++ later) → IsAbsent n later
+  after : (held : List HeldConnection) (from : ℕ) → n ≤ from → RisesTo from high (held ++ later) → IsAbsent n later
   after [] from below r' = above-absent later from high n below r'
   after (v ∷ held) from below r' = after held v.number (omega (arith, r'.0)) r'.1
 
@@ -150,41 +150,41 @@ one-absent n (w ∷ first) later low high r = by (w.number == n) refl (one-absen
   by false e (inl a) = inl (e, a)
   by false e (inr a) = inr a
 
-absent-first : (n : ℕ) (first later : List HeldWire) → IsAbsent n (first ++ later) → IsAbsent n first
+absent-first : (n : ℕ) (first later : List HeldConnection) → IsAbsent n (first ++ later) → IsAbsent n first
 absent-first n [] later a = tt
 absent-first n (w ∷ first) later a = (a.0, absent-first n first later a.1)
 
 module _ (n : ℕ) (h : Hold) where
-  midway-begun : (taking : Taking) (done : List Done) (wire : HeldWire) (at : Break) → IsNumbered h → IsMidway h taking done wire at
+  midway-begun : (taking : Taking) (done : List Done) (wire : HeldConnection) (at : Break) → IsNumbered h → IsMidway h taking done wire at
       → IsQuiet (taking_steps taking ++ flat_map done_steps done) → Begun n h (taking_steps taking ++ flat_map done_steps done) done
   midway-begun taking done wire at numbered fits q =
-      let rises : RisesTo 0 (with_taken h taking).newest (map wire_of done ++ wire ∷ fits.others) =
+      let rises : RisesTo 0 (with_taken h taking).newest (map connection_of done ++ wire ∷ fits.others) =
       rw fits.each (rises-taken h taking fits.takes numbered) in
-      let front = rises-front (map wire_of done) (wire ∷ fits.others) 0 (with_taken h taking).newest rises in
-      let same : held_on n h.held ≡ held_on n (map wire_of done) ++ held_on n (wire ∷ fits.others) =
+      let front = rises-front (map connection_of done) (wire ∷ fits.others) 0 (with_taken h taking).newest rises in
+      let same : held_on n h.held ≡ held_on n (map connection_of done) ++ held_on n (wire ∷ fits.others) =
       sym (taken-held n h taking) ∙ ap (held_on n) (sym fits.each)
-      ∙ flat_map-append (λ (w : HeldWire). on n w.number w.unsent) (map wire_of done) (wire ∷ fits.others) in
+      ∙ flat_map-append (λ (w : HeldConnection). on n w.number w.unsent) (map connection_of done) (wire ∷ fits.others) in
       let answered = begun-answers n taking done q in
-      elim (one-absent n (map wire_of done) (wire ∷ fits.others) 0 (with_taken h taking).newest rises) [
+      elim (one-absent n (map connection_of done) (wire ∷ fits.others) 0 (with_taken h taking).newest rises) [
         | inl none ↦ (held_on n h.held, rw (answered, absent-done n answered_in done none, absent-done n written_in done none) (append-nil (held_on n h.held)))
         | inr none ↦
-            let shorter : held_on n h.held ≡ held_on n (map wire_of done) =
-            same ∙ rw (absent-held n (wire ∷ fits.others) none) (append-nil (held_on n (map wire_of done))) in
-            (done_on n lost_in done ++ held_on n (flat_map wires_kept done), rw (answered, shorter) (round-conserves n done 0 front.0 front.1 fits.due))
+            let shorter : held_on n h.held ≡ held_on n (map connection_of done) =
+            same ∙ rw (absent-held n (wire ∷ fits.others) none) (append-nil (held_on n (map connection_of done))) in
+            (done_on n lost_in done ++ held_on n (flat_map connections_kept done), rw (answered, shorter) (round-conserves n done 0 front.0 front.1 fits.due))
       ]
 
   cut-begun : (cut : Cut) → IsNumbered h → IsCut h cut → IsQuiet (cut_steps cut) → Begun n h (cut_steps cut) (cut_done cut)
   cut-begun NoRoom numbered fits q = (held_on n h.held ++ [], refl)
-  cut-begun Unaccepted numbered fits q = (held_on n h.held ++ [], refl)
-  cut-begun (Unopened place number) numbered fits q = (held_on n h.held ++ [], refl)
+  cut-begun AcceptFailed numbered fits q = (held_on n h.held ++ [], refl)
+  cut-begun (OpenFailed place number) numbered fits q = (held_on n h.held ++ [], refl)
   cut-begun (Midway taking done wire at) numbered fits q = midway-begun taking done wire at numbered fits q
 
   cut-gone : (cut : Cut) → IsCut h cut → IsGone n h → done_on n written_in (cut_done cut) ≡ []
   cut-gone NoRoom fits gone = refl
-  cut-gone Unaccepted fits gone = refl
-  cut-gone (Unopened place number) fits gone = refl
+  cut-gone AcceptFailed fits gone = refl
+  cut-gone (OpenFailed place number) fits gone = refl
   cut-gone (Midway taking done wire at) fits gone =
-      absent-done n written_in done (absent-first n (map wire_of done) (wire ∷ fits.others) (rw fits.each (gone-taken n h taking fits.takes gone).1))
+      absent-done n written_in done (absent-first n (map connection_of done) (wire ∷ fits.others) (rw fits.each (gone-taken n h taking fits.takes gone).1))
 
   turn-begun : (t : Turn) (steps : List Step) (done : List Done) → IsNumbered h → IsTurn h t → IsQuiet (turn_steps t)
       → Begun n (after_turn h t) steps done → (IsGone n (after_turn h t) → done_on n written_in done ≡ [])

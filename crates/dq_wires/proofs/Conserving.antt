@@ -3,58 +3,58 @@ use Rattle.std.proofs.Common.{◌≡◌, ◌<◌, ◌≤◌, ◌+◌, ◌⊎◌,
 use Rattle.std.specs.List.{flat_map}
 use Rattle.std.proofs.lemmas.List.{append-nil, take-append-drop}
 use Rattle.dq_wires.specs.Limits.{most_wires}
-use Rattle.dq_wires.specs.Held.{HeldWire, new_held}
-use Rattle.dq_wires.specs.Deeds.{Deed, IsDue, deed_after}
-use Rattle.dq_wires.specs.Deeds.Deed.{Sent, Broke, Lost, Closed, Heard, Silent, Pulled, Left}
-use Rattle.dq_wires.specs.Turns.{Done, wire_of, wires_kept, Hold, greatest_number, Taking, IsTaking, with_taken, Turn, IsTurn, after_turn, AreTurns, after_turns}
-use Rattle.dq_wires.specs.Turns.Taking.{Full, Nobody, ReadOutcome}
+use Rattle.dq_wires.specs.HeldConnections.{HeldConnection, new_held}
+use Rattle.dq_wires.specs.ConnectionActions.{ConnectionAction, IsDue, action_after}
+use Rattle.dq_wires.specs.ConnectionActions.ConnectionAction.{Sent, WriteFailed, LastWriteFailed, Closed, Received, Idle, Pulled, PeerLeft}
+use Rattle.dq_wires.specs.Turns.{Done, connection_of, connections_kept, Hold, greatest_number, Taking, IsTaking, with_taken, Turn, IsTurn, after_turn, AreTurns, after_turns}
+use Rattle.dq_wires.specs.Turns.Taking.{Full, Nobody, NewConnection}
 use Rattle.dq_wires.specs.Octets.{answered_in, written_in, lost_in, unsent_of, RisesTo, IsNumbered}
 
-pub deed-conserves : (wire : HeldWire) (deed : Deed) → IsDue wire deed → (let d : Done = record { wire = wire; deed = deed } in
-    wire.unsent ++ answered_in d ≡ written_in d ++ (lost_in d ++ flat_map unsent_of (wires_kept d)))
-deed-conserves wire (Sent count) due = simp (append-nil, take-append-drop)
-deed-conserves wire (Broke reply shut) due = simp append-nil
-deed-conserves wire (Lost shut) due = refl
-deed-conserves wire (Closed shut) due = rw due.0 refl
-deed-conserves wire (Heard octets reply) due = rw due.0.0 refl
-deed-conserves wire Silent due = refl
-deed-conserves wire (Pulled reply) due = rw due.0 refl
-deed-conserves wire (Left came reply shut) due = rw due.0.0 refl
+pub action-conserves : (wire : HeldConnection) (action : ConnectionAction) → IsDue wire action → (let d : Done = record { wire = wire; action = action } in
+    wire.unsent ++ answered_in d ≡ written_in d ++ (lost_in d ++ flat_map unsent_of (connections_kept d)))
+action-conserves wire (Sent count) due = simp (append-nil, take-append-drop)
+action-conserves wire (WriteFailed reply shut) due = simp append-nil
+action-conserves wire (LastWriteFailed shut) due = refl
+action-conserves wire (Closed shut) due = rw due.0 refl
+action-conserves wire (Received octets reply) due = rw due.0.0 refl
+action-conserves wire Idle due = refl
+action-conserves wire (Pulled reply) due = rw due.0 refl
+action-conserves wire (PeerLeft came reply shut) due = rw due.0.0 refl
 
 -- a connection is kept under its number, or not at all
-pub kept-or-not : (wire : HeldWire) (deed : Deed) → (deed_after wire deed ≡ []) ⊎ ((next : HeldWire) × (deed_after wire deed ≡ next ∷ []) × (next.number ≡ wire.number))
+pub kept-or-not : (wire : HeldConnection) (action : ConnectionAction) → (action_after wire action ≡ []) ⊎ ((next : HeldConnection) × (action_after wire action ≡ next ∷ []) × (next.number ≡ wire.number))
 kept-or-not wire (Sent count) = inr (_, refl, refl)
-kept-or-not wire (Broke reply shut) = inl refl
-kept-or-not wire (Lost shut) = inl refl
+kept-or-not wire (WriteFailed reply shut) = inl refl
+kept-or-not wire (LastWriteFailed shut) = inl refl
 kept-or-not wire (Closed shut) = inl refl
-kept-or-not wire (Heard octets reply) = inr (_, refl, refl)
-kept-or-not wire Silent = inr (_, refl, refl)
+kept-or-not wire (Received octets reply) = inr (_, refl, refl)
+kept-or-not wire Idle = inr (_, refl, refl)
 kept-or-not wire (Pulled reply) = inr (_, refl, refl)
-kept-or-not wire (Left came reply shut) = inl refl
+kept-or-not wire (PeerLeft came reply shut) = inl refl
 
-pub rises-lower : (held : List HeldWire) (low less high : ℕ) → less ≤ low → RisesTo low high held → RisesTo less high held
+pub rises-lower : (held : List HeldConnection) (low less high : ℕ) → less ≤ low → RisesTo low high held → RisesTo less high held
 rises-lower [] low less high e h = omega arith
 rises-lower (w ∷ held) low less high e h = (omega (arith, h.0), h.1)
 
-rises-new : (held : List HeldWire) (low high place : ℕ) → RisesTo low high held → RisesTo low (high + 1) (held ++ new_held place (high + 1) ∷ [])
+rises-new : (held : List HeldConnection) (low high place : ℕ) → RisesTo low high held → RisesTo low (high + 1) (held ++ new_held place (high + 1) ∷ [])
 rises-new [] low high place h = (omega arith, omega arith)
 rises-new (w ∷ held) low high place h = (h.0, rises-new held w.number high place h.1)
 
 -- one connection is kept before others, or not
-rises-past : (d : Done) (low high : ℕ) → low < d.wire.number → (held : List HeldWire) → RisesTo d.wire.number high held
-    → (deed_after d.wire d.deed ≡ []) ⊎ ((next : HeldWire) × (deed_after d.wire d.deed ≡ next ∷ []) × (next.number ≡ d.wire.number))
-    → RisesTo low high (deed_after d.wire d.deed ++ held)
+rises-past : (d : Done) (low high : ℕ) → low < d.wire.number → (held : List HeldConnection) → RisesTo d.wire.number high held
+    → (action_after d.wire d.action ≡ []) ⊎ ((next : HeldConnection) × (action_after d.wire d.action ≡ next ∷ []) × (next.number ≡ d.wire.number))
+    → RisesTo low high (action_after d.wire d.action ++ held)
 rises-past d low high above held later (inl e) = rw e (rises-lower held d.wire.number low high (omega arith) later)
 rises-past d low high above held later (inr (next, e, n)) = rw (e, n) (above, later)
 
-rises-kept : (done : List Done) (low high : ℕ) → RisesTo low high (map wire_of done) → RisesTo low high (flat_map wires_kept done)
+rises-kept : (done : List Done) (low high : ℕ) → RisesTo low high (map connection_of done) → RisesTo low high (flat_map connections_kept done)
 rises-kept [] low high h = h
-rises-kept (d ∷ done) low high h = rises-past d low high h.0 (flat_map wires_kept done) (rises-kept done d.wire.number high h.1) (kept-or-not d.wire d.deed)
+rises-kept (d ∷ done) low high h = rises-past d low high h.0 (flat_map connections_kept done) (rises-kept done d.wire.number high h.1) (kept-or-not d.wire d.action)
 
 pub rises-taken : (h : Hold) (taking : Taking) → IsTaking h taking → IsNumbered h → IsNumbered (with_taken h taking)
 rises-taken h Full takes n = n
 rises-taken h Nobody takes n = n
-rises-taken h (ReadOutcome place number reply) takes n = rw takes.1 (rises-new h.held 0 h.newest place n)
+rises-taken h (NewConnection place number reply) takes n = rw takes.1 (rises-new h.held 0 h.newest place n)
 
 pub turn-numbers : (h : Hold) (t : Turn) → IsTurn h t → IsNumbered h → IsNumbered (after_turn h t)
 turn-numbers h t is n =
@@ -65,15 +65,15 @@ pub turns-number : (h : Hold) (turns : List Turn) → IsNumbered h → AreTurns 
 turns-number h [] n are = n
 turns-number h (t ∷ turns) n are = turns-number (after_turn h t) turns (turn-numbers h t are.0 n) are.1
 
-count-past : (d : Done) (held : List HeldWire) (most : ℕ) → length held ≤ most
-    → (deed_after d.wire d.deed ≡ []) ⊎ ((next : HeldWire) × (deed_after d.wire d.deed ≡ next ∷ []) × (next.number ≡ d.wire.number))
-    → length (deed_after d.wire d.deed ++ held) ≤ suc most
+count-past : (d : Done) (held : List HeldConnection) (most : ℕ) → length held ≤ most
+    → (action_after d.wire d.action ≡ []) ⊎ ((next : HeldConnection) × (action_after d.wire d.action ≡ next ∷ []) × (next.number ≡ d.wire.number))
+    → length (action_after d.wire d.action ++ held) ≤ suc most
 count-past d held most fits (inl e) = rw e (omega arith)
 count-past d held most fits (inr (next, e, n)) = rw e (omega arith)
 
-count-kept : (done : List Done) → length (flat_map wires_kept done) ≤ length (map wire_of done)
+count-kept : (done : List Done) → length (flat_map connections_kept done) ≤ length (map connection_of done)
 count-kept [] = omega arith
-count-kept (d ∷ done) = count-past d (flat_map wires_kept done) (length (map wire_of done)) (count-kept done) (kept-or-not d.wire d.deed)
+count-kept (d ∷ done) = count-past d (flat_map connections_kept done) (length (map connection_of done)) (count-kept done) (kept-or-not d.wire d.action)
 
 first-true : (a b : Bool) → (a && b) ≡ true → a ≡ true
 first-true true b e = refl
@@ -82,7 +82,7 @@ first-true false b e = e
 taken-fits : (h : Hold) (taking : Taking) → IsTaking h taking → length h.held ≤ most_wires → length (with_taken h taking).held ≤ most_wires
 taken-fits h Full takes n = n
 taken-fits h Nobody takes n = n
-taken-fits h (ReadOutcome place number reply) takes n =
+taken-fits h (NewConnection place number reply) takes n =
     let room = first-true (nat_lt (length h.held) most_wires) (nat_lt h.newest greatest_number) takes.0 in grind (arith, length-append h.held (new_held place number ∷ []))
 
 pub turns-fit : (h : Hold) (turns : List Turn) → length h.held ≤ most_wires → AreTurns h turns → length (after_turns h turns).held ≤ most_wires

@@ -20,7 +20,7 @@ use Rattle.dq_core.specs.Connections.{Connection, new_connection, with_piece, wi
 use Rattle.dq_core.specs.Alone.{AloneWorld, AloneTurn, alone_quiet, alone_live, alone_answer, alone_answer_turn, alone_piece, alone_end, alone_pull, alone_turn, alone_after_turn, alone_replies_from}
 use Rattle.dq_core.specs.Own.{is_on_connection, replies_at}
 use Rattle.dq_core.specs.Histories.{is_above, rises_from}
-use Rattle.dq_wires.specs.Held.{reply_octets}
+use Rattle.dq_wires.specs.HeldConnections.{reply_octets}
 use Rattle.dq_wires.specs.Cuts.{joined_to, joined_pieces}
 use Rattle.dq_wires.proofs.Answering.{octets-chosen}
 

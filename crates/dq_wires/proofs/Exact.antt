@@ -6,7 +6,7 @@ use Rattle.dq_core.specs.declared.event.Event.{Event}
 use Rattle.dq_core.specs.declared.event.Reply.{Reply}
 use Rattle.dq_core.specs.declared.event.Reply.TheVariants as reply
 use Rattle.dq_core.specs.Own.{Output, Octet, Close, close_if, outputs_in, outputs_on, is_on_connection, replies_at}
-use Rattle.dq_wires.specs.Held.{reply_octets}
+use Rattle.dq_wires.specs.HeldConnections.{reply_octets}
 use Rattle.dq_wires.specs.Servings.{octets_among}
 
 of_both : (some more : List Output) → octets_among (some ++ more) ≡ octets_among some ++ octets_among more

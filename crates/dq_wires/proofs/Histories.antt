@@ -8,7 +8,7 @@ use Rattle.dq_core.specs.Shared.{World, turn, world_after_turn, world_from, firs
 use Rattle.dq_core.specs.ServerView.{ServerView}
 use Rattle.dq_wires.specs.Steps.{Step, Runs, events_of, replies_of}
 use Rattle.dq_wires.specs.Steps.Step.{Answered, Asked}
-use Rattle.dq_wires.specs.Stepping.{Moves}
+use Rattle.dq_wires.specs.ServerSteps.{Moves}
 use Rattle.dq_wires.specs.Serving.{Serves}
 
 world-next : (institutions : List Institution) (world : World) (events : List Event) (event : Event) → world_from institutions world (events ++ event ∷ [])

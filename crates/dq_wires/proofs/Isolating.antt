@@ -29,10 +29,10 @@ use Rattle.dq_core.specs.Runs.{IsRun}
 use Rattle.dq_core.specs.Stepping.{IsPartOf, MayLeaveAfter}
 use Rattle.dq_core.specs.Renumbering.{KeepsOrder, with_other_number, renumbered_reply}
 use Rattle.dq_core.specs.ServerView.{ServerView}
-use Rattle.dq_wires.specs.Held.{reply_octets}
+use Rattle.dq_wires.specs.HeldConnections.{reply_octets}
 use Rattle.dq_wires.specs.Steps.{Step, events_of, replies_of}
 use Rattle.dq_wires.specs.Steps.Step.{Answered, Asked}
-use Rattle.dq_wires.specs.Stepping.{Fails}
+use Rattle.dq_wires.specs.ServerSteps.{Fails}
 use Rattle.dq_wires.specs.Turns.{Cut}
 use Rattle.dq_wires.specs.Serving.{Serves}
 use Rattle.dq_wires.specs.Servings.{Act, nothing_held, Served, served_steps, served_done, served_events, written_on, answered_on, IsFrontOf, OneBegins}

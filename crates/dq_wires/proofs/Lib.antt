@@ -1,7 +1,7 @@
 pub mod Logging
-pub mod Doing
-pub mod Rounding
-pub mod Revolving
+pub mod ConnectionTurns
+pub mod TurnSequences
+pub mod WholeTurns
 pub mod Accepting
 pub mod Orders
 pub mod Histories

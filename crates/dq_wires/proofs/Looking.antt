@@ -15,11 +15,11 @@ use Rattle.dq_core.proofs.TableCalls.{goes-then}
 use Rattle.dq_core.proofs.Looking.{looked-none, looked-then}
 use Rattle.dq_wires.specs.Steps.{Step, Runs}
 use Rattle.dq_wires.specs.Steps.Step.{Answered, Asked}
-use Rattle.dq_wires.specs.Stepping.{Stepped, Asks, Moves}
+use Rattle.dq_wires.specs.ServerSteps.{Stepped, Asks, Moves}
 use Rattle.dq_wires.specs.Serving.{Serves}
 use Rattle.dq_wires.specs.Servings.{ComesBy}
 use Rattle.dq_wires.proofs.Histories.{runs-serve}
-use Rattle.dq_wires.proofs.Rounding.{runs-then}
+use Rattle.dq_wires.proofs.TurnSequences.{runs-then}
 
 module _ {Tables : Type 0} {state : Tables → State} where
   pub stepped-after : {old mid new : ServerView Tables} {event : Event} {reply : Reply}

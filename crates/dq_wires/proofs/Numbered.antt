@@ -4,16 +4,16 @@ use Rattle.std.specs.List.{flat_map}
 use Rattle.std.proofs.lemmas.List.{append-nil}
 use Rattle.std.proofs.lemmas.Grind.{flat_map-append}
 use Rattle.std.proofs.lemmas.Bool.Decides.{nat_tests}
-use Rattle.dq_wires.specs.Held.{HeldWire, new_held}
-use Rattle.dq_wires.specs.Deeds.{Deed, deed_after}
-use Rattle.dq_wires.specs.Deeds.Deed.{Sent, Broke, Lost, Closed, Heard, Silent, Pulled, Left}
-use Rattle.dq_wires.specs.Turns.{Done, wire_of, wires_kept, AreDue, Hold, Taking, IsTaking, with_taken, Turn, IsTurn, after_turn, AreTurns, after_turns}
-use Rattle.dq_wires.specs.Turns.Taking.{Full, Nobody, ReadOutcome}
-use Rattle.dq_wires.specs.Octets.{answered_in, written_in, lost_in, deed_lost, unsent_of, on, held_on, done_on, turns_done, RisesTo, IsNumbered}
-use Rattle.dq_wires.proofs.Conserving.{deed-conserves, kept-or-not, rises-taken, turn-numbers}
+use Rattle.dq_wires.specs.HeldConnections.{HeldConnection, new_held}
+use Rattle.dq_wires.specs.ConnectionActions.{ConnectionAction, action_after}
+use Rattle.dq_wires.specs.ConnectionActions.ConnectionAction.{Sent, WriteFailed, LastWriteFailed, Closed, Received, Idle, Pulled, PeerLeft}
+use Rattle.dq_wires.specs.Turns.{Done, connection_of, connections_kept, AreDue, Hold, Taking, IsTaking, with_taken, Turn, IsTurn, after_turn, AreTurns, after_turns}
+use Rattle.dq_wires.specs.Turns.Taking.{Full, Nobody, NewConnection}
+use Rattle.dq_wires.specs.Octets.{answered_in, written_in, lost_in, action_lost, unsent_of, on, held_on, done_on, turns_done, RisesTo, IsNumbered}
+use Rattle.dq_wires.proofs.Conserving.{action-conserves, kept-or-not, rises-taken, turn-numbers}
 
 -- no connection has the number
-abbrev pub IsAbsent : ℕ → List HeldWire → Type 0
+abbrev pub IsAbsent : ℕ → List HeldConnection → Type 0
 IsAbsent n [] = Unit {0}
 IsAbsent n (w ∷ held) = ((w.number == n) ≡ false) × IsAbsent n held
 
@@ -21,25 +21,25 @@ pub nothing-on : (b : Bool) → (let none : List ℕ = [] in (if b then none els
 nothing-on true = refl
 nothing-on false = refl
 
-pub absent-held : (n : ℕ) (held : List HeldWire) → IsAbsent n held → held_on n held ≡ []
+pub absent-held : (n : ℕ) (held : List HeldConnection) → IsAbsent n held → held_on n held ≡ []
 absent-held n [] a = refl
 absent-held n (w ∷ held) a = rw (a.0, absent-held n held a.1) refl
 
-pub absent-done : (n : ℕ) (f : Done → List ℕ) (done : List Done) → IsAbsent n (map wire_of done) → done_on n f done ≡ []
+pub absent-done : (n : ℕ) (f : Done → List ℕ) (done : List Done) → IsAbsent n (map connection_of done) → done_on n f done ≡ []
 absent-done n f [] a = refl
 absent-done n f (d ∷ done) a = rw (a.0, absent-done n f done a.1) refl
 
-absent-past : (n : ℕ) (d : Done) (held : List HeldWire) → (d.wire.number == n) ≡ false → IsAbsent n held
-    → (deed_after d.wire d.deed ≡ []) ⊎ ((next : HeldWire) × (deed_after d.wire d.deed ≡ next ∷ []) × (next.number ≡ d.wire.number))
-    → IsAbsent n (deed_after d.wire d.deed ++ held)
+absent-past : (n : ℕ) (d : Done) (held : List HeldConnection) → (d.wire.number == n) ≡ false → IsAbsent n held
+    → (action_after d.wire d.action ≡ []) ⊎ ((next : HeldConnection) × (action_after d.wire d.action ≡ next ∷ []) × (next.number ≡ d.wire.number))
+    → IsAbsent n (action_after d.wire d.action ++ held)
 absent-past n d held a h (inl e) = rw e h
 absent-past n d held a h (inr (next, e, m)) = rw (e, m) (a, h)
 
-absent-kept : (n : ℕ) (done : List Done) → IsAbsent n (map wire_of done) → IsAbsent n (flat_map wires_kept done)
+absent-kept : (n : ℕ) (done : List Done) → IsAbsent n (map connection_of done) → IsAbsent n (flat_map connections_kept done)
 absent-kept n [] a = tt
-absent-kept n (d ∷ done) a = absent-past n d (flat_map wires_kept done) a.0 (absent-kept n done a.1) (kept-or-not d.wire d.deed)
+absent-kept n (d ∷ done) a = absent-past n d (flat_map connections_kept done) a.0 (absent-kept n done a.1) (kept-or-not d.wire d.action)
 
-absent-more : (n : ℕ) (held : List HeldWire) (w : HeldWire) → IsAbsent n held → (w.number == n) ≡ false → IsAbsent n (held ++ w ∷ [])
+absent-more : (n : ℕ) (held : List HeldConnection) (w : HeldConnection) → IsAbsent n held → (w.number == n) ≡ false → IsAbsent n (held ++ w ∷ [])
 absent-more n [] w a e = (e, tt)
 absent-more n (v ∷ held) w a e = (a.0, absent-more n held w a.1 e)
 
@@ -49,25 +49,25 @@ above n m h = grind (arith, nat_tests)
 pub equal : (n m : ℕ) → (m == n) ≡ true → m ≡ n
 equal n m h = grind (arith, nat_tests)
 
-pub above-absent : (held : List HeldWire) (low high n : ℕ) → n ≤ low → RisesTo low high held → IsAbsent n held
+pub above-absent : (held : List HeldConnection) (low high n : ℕ) → n ≤ low → RisesTo low high held → IsAbsent n held
 above-absent [] low high n below r = tt
 above-absent (w ∷ held) low high n below r =
     (above n w.number (omega (arith, r.0)), above-absent held w.number high n (omega (arith, r.0)) r.1)
 
-rises-over : (held : List HeldWire) (low high : ℕ) → RisesTo low high held → low ≤ high
+rises-over : (held : List HeldConnection) (low high : ℕ) → RisesTo low high held → low ≤ high
 rises-over [] low high r = r
 rises-over (w ∷ held) low high r = omega (arith, r.0, rises-over held w.number high r.1)
 
 -- what is kept of one connection
 kept-own : (n : ℕ) (d : Done) → (d.wire.number == n) ≡ true
-    → (deed_after d.wire d.deed ≡ []) ⊎ ((next : HeldWire) × (deed_after d.wire d.deed ≡ next ∷ []) × (next.number ≡ d.wire.number))
-    → held_on n (wires_kept d) ≡ flat_map unsent_of (wires_kept d)
+    → (action_after d.wire d.action ≡ []) ⊎ ((next : HeldConnection) × (action_after d.wire d.action ≡ next ∷ []) × (next.number ≡ d.wire.number))
+    → held_on n (connections_kept d) ≡ flat_map unsent_of (connections_kept d)
 kept-own n d same (inl e) = rw e refl
 kept-own n d same (inr (next, e, m)) = rw (e, m, same) refl
 
 kept-other : (n : ℕ) (d : Done) → (d.wire.number == n) ≡ false
-    → (deed_after d.wire d.deed ≡ []) ⊎ ((next : HeldWire) × (deed_after d.wire d.deed ≡ next ∷ []) × (next.number ≡ d.wire.number))
-    → held_on n (wires_kept d) ≡ []
+    → (action_after d.wire d.action ≡ []) ⊎ ((next : HeldConnection) × (action_after d.wire d.action ≡ next ∷ []) × (next.number ≡ d.wire.number))
+    → held_on n (connections_kept d) ≡ []
 kept-other n d other (inl e) = rw e refl
 kept-other n d other (inr (next, e, m)) = rw (e, m, other) refl
 
@@ -76,65 +76,65 @@ own-alone : (u a w l k u' a' w' l' k' : List ℕ) → u ++ a ≡ w ++ (l ++ k) �
 own-alone u a w l k u' a' w' l' k' e e1 e2 e3 e4 e5 = rw (e1, e2, e3, e4, e5) (simp append-nil e)
 
 -- what a connection had unsent and was answered in its turn is what was written, lost and is unsent
-pub round-conserves : (n : ℕ) (done : List Done) (low high : ℕ) → RisesTo low high (map wire_of done) → AreDue done
-    → held_on n (map wire_of done) ++ done_on n answered_in done
-    ≡ done_on n written_in done ++ (done_on n lost_in done ++ held_on n (flat_map wires_kept done))
+pub round-conserves : (n : ℕ) (done : List Done) (low high : ℕ) → RisesTo low high (map connection_of done) → AreDue done
+    → held_on n (map connection_of done) ++ done_on n answered_in done
+    ≡ done_on n written_in done ++ (done_on n lost_in done ++ held_on n (flat_map connections_kept done))
 round-conserves n [] low high r due = refl
 round-conserves n (d ∷ done) low high r due = by (d.wire.number == n) refl (round-conserves n done d.wire.number high r.1 due.1) where
-  split : held_on n (wires_kept d ++ flat_map wires_kept done) ≡ held_on n (wires_kept d) ++ held_on n (flat_map wires_kept done)
-  split = flat_map-append (λ (w : HeldWire). on n w.number w.unsent) (wires_kept d) (flat_map wires_kept done)
+  split : held_on n (connections_kept d ++ flat_map connections_kept done) ≡ held_on n (connections_kept d) ++ held_on n (flat_map connections_kept done)
+  split = flat_map-append (λ (w : HeldConnection). on n w.number w.unsent) (connections_kept d) (flat_map connections_kept done)
 
   by : (b : Bool) → (d.wire.number == n) ≡ b
-      → held_on n (map wire_of done) ++ done_on n answered_in done
-      ≡ done_on n written_in done ++ (done_on n lost_in done ++ held_on n (flat_map wires_kept done))
-      → held_on n (map wire_of (d ∷ done)) ++ done_on n answered_in (d ∷ done)
-      ≡ done_on n written_in (d ∷ done) ++ (done_on n lost_in (d ∷ done) ++ held_on n (flat_map wires_kept (d ∷ done)))
+      → held_on n (map connection_of done) ++ done_on n answered_in done
+      ≡ done_on n written_in done ++ (done_on n lost_in done ++ held_on n (flat_map connections_kept done))
+      → held_on n (map connection_of (d ∷ done)) ++ done_on n answered_in (d ∷ done)
+      ≡ done_on n written_in (d ∷ done) ++ (done_on n lost_in (d ∷ done) ++ held_on n (flat_map connections_kept (d ∷ done)))
   by true e others_conserve =
       let m : d.wire.number ≡ n = equal n d.wire.number e in
-      let others : IsAbsent n (map wire_of done) = above-absent (map wire_of done) d.wire.number high n (omega (arith, m)) r.1 in
-      rw (split, kept-own n d e (kept-or-not d.wire d.deed), e)
-      (own-alone d.wire.unsent (answered_in d) (written_in d) (lost_in d) (flat_map unsent_of (wires_kept d))
-      (held_on n (map wire_of done)) (done_on n answered_in done) (done_on n written_in done) (done_on n lost_in done) (held_on n (flat_map wires_kept done))
-      (deed-conserves d.wire d.deed due.0) (absent-held n (map wire_of done) others) (absent-done n answered_in done others)
+      let others : IsAbsent n (map connection_of done) = above-absent (map connection_of done) d.wire.number high n (omega (arith, m)) r.1 in
+      rw (split, kept-own n d e (kept-or-not d.wire d.action), e)
+      (own-alone d.wire.unsent (answered_in d) (written_in d) (lost_in d) (flat_map unsent_of (connections_kept d))
+      (held_on n (map connection_of done)) (done_on n answered_in done) (done_on n written_in done) (done_on n lost_in done) (held_on n (flat_map connections_kept done))
+      (action-conserves d.wire d.action due.0) (absent-held n (map connection_of done) others) (absent-done n answered_in done others)
       (absent-done n written_in done others) (absent-done n lost_in done others)
-      (absent-held n (flat_map wires_kept done) (absent-kept n done others)))
-  by false e others_conserve = rw (split, kept-other n d e (kept-or-not d.wire d.deed), e) others_conserve
+      (absent-held n (flat_map connections_kept done) (absent-kept n done others)))
+  by false e others_conserve = rw (split, kept-other n d e (kept-or-not d.wire d.action), e) others_conserve
 
 -- a connection that loses octets is given up
-lost-or-kept : (wire : HeldWire) (deed : Deed) → (deed_lost wire deed ≡ []) ⊎ (deed_after wire deed ≡ [])
+lost-or-kept : (wire : HeldConnection) (action : ConnectionAction) → (action_lost wire action ≡ []) ⊎ (action_after wire action ≡ [])
 lost-or-kept wire (Sent count) = inl refl
-lost-or-kept wire (Broke reply shut) = inr refl
-lost-or-kept wire (Lost shut) = inr refl
+lost-or-kept wire (WriteFailed reply shut) = inr refl
+lost-or-kept wire (LastWriteFailed shut) = inr refl
 lost-or-kept wire (Closed shut) = inl refl
-lost-or-kept wire (Heard octets reply) = inl refl
-lost-or-kept wire Silent = inl refl
+lost-or-kept wire (Received octets reply) = inl refl
+lost-or-kept wire Idle = inl refl
 lost-or-kept wire (Pulled reply) = inl refl
-lost-or-kept wire (Left came reply shut) = inr refl
+lost-or-kept wire (PeerLeft came reply shut) = inr refl
 
 -- nothing was lost on it, or it is not held any more
-lost-or-gone : (n : ℕ) (done : List Done) (low high : ℕ) → RisesTo low high (map wire_of done)
-    → (done_on n lost_in done ≡ []) ⊎ ((n ≤ high) × IsAbsent n (flat_map wires_kept done))
+lost-or-gone : (n : ℕ) (done : List Done) (low high : ℕ) → RisesTo low high (map connection_of done)
+    → (done_on n lost_in done ≡ []) ⊎ ((n ≤ high) × IsAbsent n (flat_map connections_kept done))
 lost-or-gone n [] low high r = inl refl
 lost-or-gone n (d ∷ done) low high r = by (d.wire.number == n) refl (lost-or-gone n done d.wire.number high r.1) where
   by : (b : Bool) → (d.wire.number == n) ≡ b
-      → (done_on n lost_in done ≡ []) ⊎ ((n ≤ high) × IsAbsent n (flat_map wires_kept done))
-      → (done_on n lost_in (d ∷ done) ≡ []) ⊎ ((n ≤ high) × IsAbsent n (flat_map wires_kept (d ∷ done)))
+      → (done_on n lost_in done ≡ []) ⊎ ((n ≤ high) × IsAbsent n (flat_map connections_kept done))
+      → (done_on n lost_in (d ∷ done) ≡ []) ⊎ ((n ≤ high) × IsAbsent n (flat_map connections_kept (d ∷ done)))
   by true e so =
       let m : d.wire.number ≡ n = equal n d.wire.number e in
-      let others : IsAbsent n (map wire_of done) = above-absent (map wire_of done) d.wire.number high n (omega (arith, m)) r.1 in
-      elim (lost-or-kept d.wire d.deed) [
+      let others : IsAbsent n (map connection_of done) = above-absent (map connection_of done) d.wire.number high n (omega (arith, m)) r.1 in
+      elim (lost-or-kept d.wire d.action) [
         | inl none ↦ inl (rw (e, none, absent-done n lost_in done others) refl)
-        | inr gone ↦ inr (omega (arith, m, rises-over (map wire_of done) d.wire.number high r.1), rw gone (absent-kept n done others))
+        | inr gone ↦ inr (omega (arith, m, rises-over (map connection_of done) d.wire.number high r.1), rw gone (absent-kept n done others))
       ]
   by false e (inl none) = inl (rw (e, none) refl)
-  by false e (inr gone) = inr (gone.0, absent-past n d (flat_map wires_kept done) e gone.1 (kept-or-not d.wire d.deed))
+  by false e (inr gone) = inr (gone.0, absent-past n d (flat_map connections_kept done) e gone.1 (kept-or-not d.wire d.action))
 
 -- one that has just come has nothing unsent
 pub taken-held : (n : ℕ) (h : Hold) (taking : Taking) → held_on n (with_taken h taking).held ≡ held_on n h.held
 taken-held n h Full = refl
 taken-held n h Nobody = refl
-taken-held n h (ReadOutcome place number reply) =
-    flat_map-append (λ (w : HeldWire). on n w.number w.unsent) h.held (new_held place number ∷ [])
+taken-held n h (NewConnection place number reply) =
+    flat_map-append (λ (w : HeldConnection). on n w.number w.unsent) h.held (new_held place number ∷ [])
     ∙ rw (nothing-on (number == n)) (append-nil (held_on n h.held))
 
 pub turn-conserves : (n : ℕ) (h : Hold) (t : Turn) → IsNumbered h → IsTurn h t
@@ -142,7 +142,7 @@ pub turn-conserves : (n : ℕ) (h : Hold) (t : Turn) → IsNumbered h → IsTurn
     ≡ done_on n written_in t.done ++ (done_on n lost_in t.done ++ held_on n (after_turn h t).held)
 turn-conserves n h t numbered is =
     let taken : IsNumbered (with_taken h t.taking) = rises-taken h t.taking is.takes numbered in
-    let same : held_on n h.held ≡ held_on n (map wire_of t.done) = sym (taken-held n h t.taking) ∙ ap (held_on n) (sym is.each) in
+    let same : held_on n h.held ≡ held_on n (map connection_of t.done) = sym (taken-held n h t.taking) ∙ ap (held_on n) (sym is.each) in
     rw same (round-conserves n t.done 0 (with_taken h t.taking).newest (rw is.each taken) is.due)
 
 -- The connection was given up, and its number is not given again.
@@ -152,7 +152,7 @@ IsGone n h = (n ≤ h.newest) × IsAbsent n h.held
 pub gone-taken : (n : ℕ) (h : Hold) (taking : Taking) → IsTaking h taking → IsGone n h → IsGone n (with_taken h taking)
 gone-taken n h Full takes gone = gone
 gone-taken n h Nobody takes gone = gone
-gone-taken n h (ReadOutcome place number reply) takes gone =
+gone-taken n h (NewConnection place number reply) takes gone =
     let above-it : n < number = omega (arith, takes.1, gone.0) in
     (omega arith, absent-more n h.held (new_held place number) gone.1 (above n number above-it))
 

@@ -11,10 +11,10 @@ use Rattle.dq_wires.specs.declared.fault.TurnFault.{TurnFault}
 use Rattle.dq_wires.specs.declared.fault.TurnFault.TheVariants.{Network}
 use Rattle.dq_wires.specs.Logs.{LogsAll}
 use Rattle.dq_wires.specs.Steps.{Step, StopsBy}
-use Rattle.dq_wires.specs.Deeds.{break_event}
+use Rattle.dq_wires.specs.ConnectionActions.{break_event}
 use Rattle.dq_wires.specs.Turns.{Hold, Cut, CutStops, accept_failure, cut_calls, all_calls, TurnsCut}
-use Rattle.dq_wires.specs.Turns.Cut.{NoRoom, Unaccepted, Unopened, Midway}
-use Rattle.dq_wires.specs.Turners.{NextOpens, IsOrder, EndsUnaccepted}
+use Rattle.dq_wires.specs.Turns.Cut.{NoRoom, AcceptFailed, OpenFailed, Midway}
+use Rattle.dq_wires.specs.Turners.{NextOpens, IsOrder, EndsInFailedAccept}
 
 pub order-opens : (newest : Option ℕ) (event : Event) → IsOrder event → Opens newest event
 order-opens newest (Open number) h = absurd h
@@ -34,23 +34,23 @@ not-network : {State : Type 0} (Fails : State → State → Event → Fault → 
 not-network Fails old new fault None stops e = let memory = stops.1 in cc
 not-network Fails old new fault (Some event) stops e = let server = stops.1 in cc
 
-unaccepted-last : (before after : Option (List Call)) (calls : List Call) → LogsAll before after (calls ++ Accept accept_failure ∷ []) → EndsUnaccepted after
+unaccepted-last : (before after : Option (List Call)) (calls : List Call) → LogsAll before after (calls ++ Accept accept_failure ∷ []) → EndsInFailedAccept after
 unaccepted-last before None calls told = tt
 unaccepted-last None (Some after) calls told = absurd told
 unaccepted-last (Some before) (Some after) calls told = (before ++ calls, told ∙ sym (append_assoc before calls (Accept accept_failure ∷ [])))
 
 module _ {State : Type 0} (Fails : State → State → Event → Fault → Type 0) (mid new : State) (fault : TurnFault) where
   last-call : (before after : Option (List Call)) (calls : List Call) (cut : Cut)
-      → LogsAll before after (calls ++ cut_calls cut) → CutStops Fails mid new cut fault → fault ≡ Network → EndsUnaccepted after
+      → LogsAll before after (calls ++ cut_calls cut) → CutStops Fails mid new cut fault → fault ≡ Network → EndsInFailedAccept after
   last-call before after calls NoRoom told stops e = absurd (not-network Fails mid new fault None stops e)
-  last-call before after calls Unaccepted told stops e = unaccepted-last before after calls told
-  last-call before after calls (Unopened place number) told stops e = absurd (not-network Fails mid new fault (Some (Open number)) stops e)
+  last-call before after calls AcceptFailed told stops e = unaccepted-last before after calls told
+  last-call before after calls (OpenFailed place number) told stops e = absurd (not-network Fails mid new fault (Some (Open number)) stops e)
   last-call before after calls (Midway taking done wire at) told stops e =
       absurd (not-network Fails mid new fault (break_event wire at) stops e)
 
 -- The network failed only where an accept did.
 pub network-unaccepted : {State : Type 0} {Goes : State → State → Step → Type 0} {Fails : State → State → Event → Fault → Type 0}
     {before after : Option (List Call)} {old new : State} {from : Hold} {count : ℕ} {fault : TurnFault}
-    → TurnsCut Goes Fails before after old new from count fault → fault ≡ Network → EndsUnaccepted after
+    → TurnsCut Goes Fails before after old new from count fault → fault ≡ Network → EndsInFailedAccept after
 network-unaccepted {Fails = Fails} {before = before} {after = after} {new = new} {fault = fault} cut e =
     last-call Fails cut.mid new fault before after (all_calls cut.turns) cut.cut cut.calls cut.stops e

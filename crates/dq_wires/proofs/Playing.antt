@@ -13,18 +13,18 @@ use Rattle.dq_core.specs.declared.event.Reply.{Reply}
 use Rattle.dq_core.specs.Histories.{opened_numbers}
 use Rattle.dq_core.specs.ServerView.{ServerView, Refines}
 use Rattle.dq_wires.specs.declared.calls.Call.{Call}
-use Rattle.dq_wires.specs.declared.looping.Line.{Line}
+use Rattle.dq_wires.specs.declared.looping.CaptureConnection.{CaptureConnection}
 use Rattle.dq_wires.specs.declared.looping.Wanted.{Wanted}
 use Rattle.dq_wires.specs.declared.looping.Wanted.TheVariants as wanted
-use Rattle.dq_wires.specs.Held.{HeldWire, wire_with}
-use Rattle.dq_wires.specs.Stepping.{Stepped, Moves}
+use Rattle.dq_wires.specs.HeldConnections.{HeldConnection, connection_with}
+use Rattle.dq_wires.specs.ServerSteps.{Stepped, Moves}
 use Rattle.dq_wires.specs.Turns.{Hold, Turn, TurnsWent}
-use Rattle.dq_wires.specs.Turners.{Turning, IsOrder}
+use Rattle.dq_wires.specs.Turners.{TurnerView, IsOrder}
 use Rattle.dq_wires.specs.Servings.{Act, act_calls, act_steps, nothing_held, after_acts, all_turned, Serving}
 use Rattle.dq_wires.specs.Servings.Act.{Turned, Ordered}
-use Rattle.dq_wires.specs.Looping.{orders_of, ordered_in, line_number, has_number, IsHeard, IsPlayed, ArePlayed, IsCome, Acted, ActsOn, PlaysOn}
+use Rattle.dq_wires.specs.Looping.{orders_of, ordered_in, capture_number, has_number, IsHeard, IsPlayed, ArePlayed, IsCome, Acted, ActsOn, PlaysOn}
 use Rattle.dq_wires.proofs.Logging.{logs-then, logs-none}
-use Rattle.dq_wires.proofs.Rounding.{runs-then}
+use Rattle.dq_wires.proofs.TurnSequences.{runs-then}
 use Rattle.dq_wires.proofs.Serving.{acts-more, after-more, turned-are, turned-after, turned-calls, turned-steps, serving-begins, serving-more}
 
 ordered_in-append : (acts more : List Act) → ordered_in (acts ++ more) ≡ ordered_in acts ++ ordered_in more
@@ -67,10 +67,10 @@ played-more earlier h (first ∷ events) acts event own (begun, later, split, or
 )
 
 module _ {Tables : Type 0} {state : Tables → State} where
-  acted-none : (log : Option (List Call)) (turner : Turning Tables) → turner.fault ≡ None → Acted state log log turner turner []
+  acted-none : (log : Option (List Call)) (turner : TurnerView Tables) → turner.fault ≡ None → Acted state log log turner turner []
   acted-none log turner working = record { are = tt; leaves = refl; calls = logs-none log; steps = refl; working = working }
 
-  acted-then : {before now after : Option (List Call)} {old mid new : Turning Tables} {acts more : List Act}
+  acted-then : {before now after : Option (List Call)} {old mid new : TurnerView Tables} {acts more : List Act}
       → Acted state before now old mid acts → Acted state now after mid new more → Acted state before after old new (acts ++ more)
   acted-then {before} {now} {after} {old} {mid} {new} {acts} {more} one two = record {
     are = acts-more old.hold acts more one.are (rw one.leaves at two.are);
@@ -82,10 +82,10 @@ module _ {Tables : Type 0} {state : Tables → State} where
     working = two.working;
   }
 
-  pub acts-none : (log : Option (List Call)) (turner : Turning Tables) → turner.fault ≡ None → ActsOn state log log turner turner []
+  pub acts-none : (log : Option (List Call)) (turner : TurnerView Tables) → turner.fault ≡ None → ActsOn state log log turner turner []
   acts-none log turner working = ([], refl, acted-none log turner working)
 
-  pub acts-turns : {before after : Option (List Call)} {old new : Turning Tables} {count : ℕ}
+  pub acts-turns : {before after : Option (List Call)} {old new : TurnerView Tables} {count : ℕ}
       → TurnsWent (Moves state) before after old.server new.server old.hold new.hold count → new.fault ≡ None → ActsOn state before after old new []
   acts-turns {before} {after} {old} {new} {count} went working = (
     all_turned went.turns,
@@ -99,7 +99,7 @@ module _ {Tables : Type 0} {state : Tables → State} where
     },
   )
 
-  pub acts-order : {log : Option (List Call)} {old new : Turning Tables} {event : Event} {reply : Reply}
+  pub acts-order : {log : Option (List Call)} {old new : TurnerView Tables} {event : Event} {reply : Reply}
       → IsOrder event → Stepped state old.server new.server event reply → new.hold ≡ old.hold → new.fault ≡ None
       → ActsOn state log log old new (event ∷ [])
   acts-order {log} {old} {new} {event} {reply} order goes held working = (
@@ -108,13 +108,13 @@ module _ {Tables : Type 0} {state : Tables → State} where
     record { are = (order, tt); leaves = held; calls = logs-none log; steps = (new.server, goes, refl); working = working },
   )
 
-  pub acts-then : {before now after : Option (List Call)} {old mid new : Turning Tables} {orders later : List Event}
+  pub acts-then : {before now after : Option (List Call)} {old mid new : TurnerView Tables} {orders later : List Event}
       → ActsOn state before now old mid orders → ActsOn state now after mid new later → ActsOn state before after old new (orders ++ later)
   acts-then {before} {now} {after} {old} {mid} {new} {orders} {later} one two =
       (one.0 ++ two.0, ordered_in-append one.0 two.0 ∙ ap₂ (λ (x y : List Event). x ++ y) one.1 two.1, acted-then one.2 two.2)
 
   -- a serving that begins with the turner
-  pub plays-whole : {Wires : Type 0} (log : Wires → Option (List Call)) (wires left : Wires) (old new : Turning Tables) (events : List Event)
+  pub plays-whole : {Wires : Type 0} (log : Wires → Option (List Call)) (wires left : Wires) (old new : TurnerView Tables) (events : List Event)
       (rows : List Row) → Refines state rows old.server [] → old.hold ≡ nothing_held → PlaysOn state (log wires) (log left) old new events
       → (acts : List Act) × (left : Wires) × (last : ServerView Tables) × (hold : Hold)
       × ArePlayed [] nothing_held events acts × Serving state rows (log wires) (log left) old.server last hold acts
@@ -129,17 +129,17 @@ module _ {Tables : Type 0} {state : Tables → State} where
   )
 
 -- What came about of the events so far.
-pub record PlayedSo {Tables : Type 0} (state : Tables → State) (before now : Option (List Call)) (old mid : Turning Tables)
+pub record PlayedSo {Tables : Type 0} (state : Tables → State) (before now : Option (List Call)) (old mid : TurnerView Tables)
     (numbers : List ℕ) (all done left : List Event) : Type 0 where
   pub parts : done ++ left ≡ all
   pub plays : PlaysOn state before now old mid done
   pub opened : numbers ≡ opened_numbers done
 
 module _ {Tables : Type 0} {state : Tables → State} where
-  pub plays-none : (log : Option (List Call)) (turner : Turning Tables) → turner.fault ≡ None → PlaysOn state log log turner turner []
+  pub plays-none : (log : Option (List Call)) (turner : TurnerView Tables) → turner.fault ≡ None → PlaysOn state log log turner turner []
   plays-none log turner working = ([], refl, acted-none log turner working)
 
-  plays-then : {before now after : Option (List Call)} {old mid new : Turning Tables} (done : List Event) (event : Event)
+  plays-then : {before now after : Option (List Call)} {old mid new : TurnerView Tables} (done : List Event) (event : Event)
       → PlaysOn state before now old mid done → ActsOn state now after mid new (orders_of (event ∷ []))
       → IsPlayed (opened_numbers done) event mid.hold new.hold → PlaysOn state before after old new (done ++ event ∷ [])
   plays-then {old = old} done event (acts, played, acted) (own, ordered, more) is = (
@@ -148,7 +148,7 @@ module _ {Tables : Type 0} {state : Tables → State} where
     acted-then acted more,
   )
 
-  pub played-next : {before now after : Option (List Call)} {old mid new : Turning Tables}
+  pub played-next : {before now after : Option (List Call)} {old mid new : TurnerView Tables}
       {numbers grown : List ℕ} {all done left later : List Event} {event : Event}
       → PlayedSo state before now old mid numbers all done left → left ≡ event ∷ later
       → ActsOn state now after mid new (orders_of (event ∷ [])) → IsPlayed numbers event mid.hold new.hold
@@ -160,37 +160,37 @@ module _ {Tables : Type 0} {state : Tables → State} where
   }
 
 -- A line with the same number in its place changes no number, whatever came of it.
-pub numbers-kept : {A E : Type 0} (r : Result A E) (lines : List Line) (at : ℕ) (line was : Line)
+pub numbers-kept : {A E : Type 0} (r : Result A E) (lines : List CaptureConnection) (at : ℕ) (line was : CaptureConnection)
     → was ≡ slice_index_or lines at was → line.number ≡ was.number
-    → OnOk r (map line_number (slice_set lines at line) ≡ map line_number lines ++ [])
+    → OnOk r (map capture_number (slice_set lines at line) ≡ map capture_number lines ++ [])
 numbers-kept (Err e) lines at line was stands same = tt
 numbers-kept (Ok x) lines at line was stands same =
-    map-set_same line_number lines at line was (same ∙ ap (λ (l : Line). l.number) stands) ∙ sym (append-nil (map line_number lines))
+    map-set_same capture_number lines at line was (same ∙ ap (λ (l : CaptureConnection). l.number) stands) ∙ sym (append-nil (map capture_number lines))
 
 module _ (number : ℕ) where
-  front-numbers : (lines : List Line)
-      → prefix_len (λ (other : ℕ). not (other == number)) (map line_number lines) ≡ prefix_len (λ (line : Line). not (has_number number line)) lines
+  front-numbers : (lines : List CaptureConnection)
+      → prefix_len (λ (other : ℕ). not (other == number)) (map capture_number lines) ≡ prefix_len (λ (line : CaptureConnection). not (has_number number line)) lines
   front-numbers [] = refl
   front-numbers (line ∷ lines) = ap (λ (n : ℕ). cond (not (line.number == number)) (1 + n) 0) (front-numbers lines)
 
   -- a line stands where its number does
-  line-position : (lines : List Line) → position (λ (other : ℕ). other == number) (map line_number lines) ≡ position (has_number number) lines
-  line-position lines = rw (front-numbers lines, length-map lines line_number) refl
+  line-position : (lines : List CaptureConnection) → position (λ (other : ℕ). other == number) (map capture_number lines) ≡ position (has_number number) lines
+  line-position lines = rw (front-numbers lines, length-map lines capture_number) refl
 
-  module _ (lines : List Line) (at : Option ℕ) (stands : at ≡ position (has_number number) lines) where
-    found : position (λ (other : ℕ). other == number) (map line_number lines) ≡ at
+  module _ (lines : List CaptureConnection) (at : Option ℕ) (stands : at ≡ position (has_number number) lines) where
+    found : position (λ (other : ℕ). other == number) (map capture_number lines) ≡ at
     found = line-position lines ∙ sym stands
 
-    pub piece-unopened : (octets : List ℕ) (before after : Hold) → at ≡ None → IsPlayed (map line_number lines) (Piece number octets) before after
+    pub piece-unopened : (octets : List ℕ) (before after : Hold) → at ≡ None → IsPlayed (map capture_number lines) (Piece number octets) before after
     piece-unopened octets before after none = rw (found, none) tt
 
-    pub end-unopened : (before after : Hold) → at ≡ None → IsPlayed (map line_number lines) (End number) before after
+    pub end-unopened : (before after : Hold) → at ≡ None → IsPlayed (map capture_number lines) (End number) before after
     end-unopened before after none = rw (found, none) tt
 
     pub piece-played : (octets : List ℕ) (before after : Hold) (i given : ℕ) → at ≡ Some i → given ≡ i + 1
-        → IsHeard octets (wire_with given before.held) (wire_with given after.held) → IsPlayed (map line_number lines) (Piece number octets) before after
+        → IsHeard octets (connection_with given before.held) (connection_with given after.held) → IsPlayed (map capture_number lines) (Piece number octets) before after
     piece-played octets before after i given some is heard = rw (found, some, ← is) heard
 
     pub end-played : (before after : Hold) (i given : ℕ) → at ≡ Some i → given ≡ i + 1
-        → wire_with given after.held ≡ None → IsPlayed (map line_number lines) (End number) before after
+        → connection_with given after.held ≡ None → IsPlayed (map capture_number lines) (End number) before after
     end-played before after i given some is gone = rw (found, some, ← is) gone

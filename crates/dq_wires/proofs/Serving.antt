@@ -16,15 +16,15 @@ use Rattle.dq_core.specs.Looking.{Looked}
 use Rattle.dq_wires.specs.declared.calls.Call.{Call}
 use Rattle.dq_wires.specs.declared.fault.TurnFault.{TurnFault}
 use Rattle.dq_wires.specs.Logs.{LogsAll}
-use Rattle.dq_wires.specs.Held.{HeldWire}
+use Rattle.dq_wires.specs.HeldConnections.{HeldConnection}
 use Rattle.dq_wires.specs.Steps.{Step, Runs, events_of}
 use Rattle.dq_wires.specs.Steps.Step.{Answered, Asked}
-use Rattle.dq_wires.specs.Stepping.{Stepped, Moves}
-use Rattle.dq_wires.specs.Deeds.{Deed, deed_steps}
-use Rattle.dq_wires.specs.Deeds.Deed.{Sent, Broke, Lost, Closed, Heard, Silent, Pulled, Left}
+use Rattle.dq_wires.specs.ServerSteps.{Stepped, Moves}
+use Rattle.dq_wires.specs.ConnectionActions.{ConnectionAction, action_steps}
+use Rattle.dq_wires.specs.ConnectionActions.ConnectionAction.{Sent, WriteFailed, LastWriteFailed, Closed, Received, Idle, Pulled, PeerLeft}
 use Rattle.dq_wires.specs.Turns.{Done, done_steps, Hold, Taking, IsTaking, taking_steps, with_taken, Turn, turn_calls, turn_steps, after_turn, AreTurns, after_turns, all_calls, all_steps, Cut, IsCut, cut_steps, TurnsWent, TurnsCut}
-use Rattle.dq_wires.specs.Turns.Taking.{Full, Nobody, ReadOutcome}
-use Rattle.dq_wires.specs.Turns.Cut.{NoRoom, Unaccepted, Unopened, Midway}
+use Rattle.dq_wires.specs.Turns.Taking.{Full, Nobody, NewConnection}
+use Rattle.dq_wires.specs.Turns.Cut.{NoRoom, AcceptFailed, OpenFailed, Midway}
 use Rattle.dq_wires.specs.Turners.{NextOpens, IsOrder}
 use Rattle.dq_wires.specs.Servings.{Act, act_calls, act_steps, nothing_held, AreActs, after_acts, all_turned, Serving, served_steps, served_events, Served}
 use Rattle.dq_wires.specs.Servings.Act.{Turned, Ordered}
@@ -128,16 +128,16 @@ module _ {Tables : Type 0} (state : Tables → State) (rows : List Row) where
       }
 
 -- numbers that are given rise: a turn opens at most one connection, under the next number
-deed-rises : (newest : Option ℕ) (wire : HeldWire) (deed : Deed) (later : List Event)
-    → rises_from newest (events_of (deed_steps wire deed) ++ later) ≡ rises_from newest later
-deed-rises newest wire (Sent count) later = refl
-deed-rises newest wire (Broke reply shut) later = refl
-deed-rises newest wire (Lost shut) later = refl
-deed-rises newest wire (Closed shut) later = refl
-deed-rises newest wire (Heard octets reply) later = refl
-deed-rises newest wire Silent later = refl
-deed-rises newest wire (Pulled reply) later = refl
-deed-rises newest wire (Left came reply shut) later = refl
+action-rises : (newest : Option ℕ) (wire : HeldConnection) (action : ConnectionAction) (later : List Event)
+    → rises_from newest (events_of (action_steps wire action) ++ later) ≡ rises_from newest later
+action-rises newest wire (Sent count) later = refl
+action-rises newest wire (WriteFailed reply shut) later = refl
+action-rises newest wire (LastWriteFailed shut) later = refl
+action-rises newest wire (Closed shut) later = refl
+action-rises newest wire (Received octets reply) later = refl
+action-rises newest wire Idle later = refl
+action-rises newest wire (Pulled reply) later = refl
+action-rises newest wire (PeerLeft came reply shut) later = refl
 
 events-append : (first later : List Step) → events_of (first ++ later) ≡ events_of first ++ events_of later
 events-append [] later = refl
@@ -149,7 +149,7 @@ round-rises : (newest : Option ℕ) (done : List Done) (later : List Step)
 round-rises newest [] later = refl
 round-rises newest (d ∷ done) later =
     rw (append_assoc (done_steps d) (flat_map done_steps done) later, events-append (done_steps d) (flat_map done_steps done ++ later))
-    (deed-rises newest d.wire d.deed (events_of (flat_map done_steps done ++ later)) ∙ round-rises newest done later)
+    (action-rises newest d.wire d.action (events_of (flat_map done_steps done ++ later)) ∙ round-rises newest done later)
 
 both : (a b : Bool) → a ≡ true → b ≡ true → (a && b) ≡ true
 both a b e f = rw (e, f) refl
@@ -160,13 +160,13 @@ taking-rises : (newest : Option ℕ) (h : Hold) (taking : Taking) (later : List 
     → IsTrue (rises_from newest (events_of (taking_steps taking ++ later)))
 taking-rises newest h Full later opens takes rest = rest newest opens
 taking-rises newest h Nobody later opens takes rest = rest newest opens
-taking-rises newest h (ReadOutcome place number reply) later opens takes rest =
+taking-rises newest h (NewConnection place number reply) later opens takes rest =
     both (is_above newest number) (rises_from (Some number) (events_of later)) (rw takes.1 opens) (rest (Some number) (grind (arith, nat_tests)))
 
 cut-rises : (newest : Option ℕ) (h : Hold) (cut : Cut) → NextOpens newest h.newest → IsCut h cut → IsTrue (rises_from newest (events_of (cut_steps cut)))
 cut-rises newest h NoRoom opens fits = refl
-cut-rises newest h Unaccepted opens fits = refl
-cut-rises newest h (Unopened place number) opens fits = refl
+cut-rises newest h AcceptFailed opens fits = refl
+cut-rises newest h (OpenFailed place number) opens fits = refl
 cut-rises newest h (Midway taking done wire at) opens fits =
     taking-rises newest h taking (flat_map done_steps done) opens fits.takes
     (λ n o. let all : rises_from n (events_of (flat_map done_steps done)) ≡ true = rw (← append-nil (flat_map done_steps done)) (round-rises n done []) in all)

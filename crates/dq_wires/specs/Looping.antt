@@ -6,16 +6,16 @@ use Rattle.dq_core.specs.declared.event.Event.{Event}
 use Rattle.dq_core.specs.declared.event.Event.TheVariants.{Open, Piece, End, Pull, Schedule, Withdraw}
 use Rattle.dq_core.specs.Histories.{opened_numbers}
 use Rattle.dq_wires.specs.declared.calls.Call.{Call}
-use Rattle.dq_wires.specs.declared.looping.Line.{Line}
+use Rattle.dq_wires.specs.declared.looping.CaptureConnection.{CaptureConnection}
 use Rattle.dq_wires.specs.declared.looping.Sent.{Sent}
 use Rattle.dq_wires.specs.declared.looping.Wanted.{Wanted}
 use Rattle.dq_wires.specs.declared.looping.Wanted.TheVariants as wanted
 use Rattle.dq_wires.specs.Logs.{LogsAll}
-use Rattle.dq_wires.specs.Held.{HeldWire, wire_with}
+use Rattle.dq_wires.specs.HeldConnections.{HeldConnection, connection_with}
 use Rattle.dq_wires.specs.Steps.{Runs}
-use Rattle.dq_wires.specs.Stepping.{Moves}
+use Rattle.dq_wires.specs.ServerSteps.{Moves}
 use Rattle.dq_wires.specs.Turns.{Hold}
-use Rattle.dq_wires.specs.Turners.{Turning}
+use Rattle.dq_wires.specs.Turners.{TurnerView}
 use Rattle.dq_wires.specs.Servings.{Act, act_calls, act_steps, AreActs, after_acts}
 use Rattle.dq_wires.specs.Servings.Act.{Turned, Ordered}
 
@@ -36,10 +36,10 @@ ordered_in (Turned t ∷ acts) = ordered_in acts
 ordered_in (Ordered event reply ∷ acts) = event ∷ ordered_in acts
 
 -- the number of a connection in the capture
-abbrev pub line_number : Line → ℕ
-line_number line = line.number
+abbrev pub capture_number : CaptureConnection → ℕ
+capture_number line = line.number
 
-abbrev pub has_number : ℕ → Line → Bool
+abbrev pub has_number : ℕ → CaptureConnection → Bool
 has_number number line = line.number == number
 
 abbrev pub sent_number : Sent → ℕ
@@ -52,7 +52,7 @@ given_to number opened = option_map (λ at. at + 1) (position (λ other. other =
 
 -- A piece reached the server: so many more octets were heard on its connection, or a reply has
 -- closed it. One that the server had let go of before hears nothing.
-abbrev pub IsHeard : List ℕ → Option HeldWire → Option HeldWire → Type 0
+abbrev pub IsHeard : List ℕ → Option HeldConnection → Option HeldConnection → Type 0
 IsHeard octets None after = Unit {0}
 IsHeard octets (Some before) None = ⊥
 IsHeard octets (Some before) (Some after) =
@@ -62,11 +62,11 @@ IsHeard octets (Some before) (Some after) =
 -- by the server, under the next number; of one that ended it has let go.
 abbrev pub IsPlayed : List ℕ → Event → Hold → Hold → Type 0
 IsPlayed opened (Open number) before after = (before.newest ≡ length opened)
-    × (after.newest ≡ length opened + 1) × (wire_with after.newest after.held ≢ None)
+    × (after.newest ≡ length opened + 1) × (connection_with after.newest after.held ≢ None)
 IsPlayed opened (Piece number octets) before after = IfSome (given_to number opened) (λ given.
-    IsHeard octets (wire_with given before.held) (wire_with given after.held))
+    IsHeard octets (connection_with given before.held) (connection_with given after.held))
 IsPlayed opened (End number) before after = IfSome (given_to number opened) (λ given.
-    wire_with given after.held ≡ None)
+    connection_with given after.held ≡ None)
 IsPlayed opened (Pull number) before after = Unit {0}
 IsPlayed opened (Schedule inst octets) before after = Unit {0}
 IsPlayed opened (Withdraw inst id) before after = Unit {0}
@@ -82,14 +82,14 @@ ArePlayed earlier before (event ∷ events) acts = (own : List Act) × (later : 
     × ArePlayed (earlier ++ event ∷ []) (after_acts before own) events later
 
 -- What is waited for on a connection has come to be.
-abbrev pub IsCome : Wanted → Option HeldWire → Type 0
+abbrev pub IsCome : Wanted → Option HeldConnection → Type 0
 IsCome goal None = Unit {0}
 IsCome (wanted.Heard count) (Some wire) = (wire.heard ≡ count) ⊎ (wire.closed ≡ true)
 IsCome wanted.Gone (Some wire) = ⊥
 
 -- By these acts a turner has come from one state to another, without a fault.
 pub record Acted {Tables : Type 0} (state : Tables → State) (before after : Option (List Call))
-    (old new : Turning Tables) (acts : List Act) : Type 0 where
+    (old new : TurnerView Tables) (acts : List Act) : Type 0 where
   pub are : AreActs old.hold acts
   pub leaves : new.hold ≡ after_acts old.hold acts
   pub calls : LogsAll before after (flat_map act_calls acts)
@@ -98,12 +98,12 @@ pub record Acted {Tables : Type 0} (state : Tables → State) (before after : Op
 
 -- by acts with these orders among them
 abbrev pub ActsOn : {Tables : Type 0} → (Tables → State) → Option (List Call) → Option (List Call)
-    → Turning Tables → Turning Tables → List Event → Type 0
+    → TurnerView Tables → TurnerView Tables → List Event → Type 0
 ActsOn state before after old new orders =
     (acts : List Act) × (ordered_in acts ≡ orders) × Acted state before after old new acts
 
 -- by acts that play events of a capture
 abbrev pub PlaysOn : {Tables : Type 0} → (Tables → State) → Option (List Call)
-    → Option (List Call) → Turning Tables → Turning Tables → List Event → Type 0
+    → Option (List Call) → TurnerView Tables → TurnerView Tables → List Event → Type 0
 PlaysOn state before after old new events =
     (acts : List Act) × ArePlayed [] old.hold events acts × Acted state before after old new acts

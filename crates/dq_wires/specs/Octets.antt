@@ -3,10 +3,10 @@ use Rattle.std.specs.Prelude.{◌<◌, ◌≤◌, ◌==◌, ℕ, if◌then◌els
 use Rattle.std.specs.List.{flat_map}
 use Rattle.dq_wires.specs.declared.calls.Call.{Call}
 use Rattle.dq_wires.specs.declared.calls.Call.TheVariants.{Accept, Read, Write, Shut}
-use Rattle.dq_wires.specs.Held.{HeldWire, reply_octets}
+use Rattle.dq_wires.specs.HeldConnections.{HeldConnection, reply_octets}
 use Rattle.dq_wires.specs.Steps.{replies_of}
-use Rattle.dq_wires.specs.Deeds.{Deed}
-use Rattle.dq_wires.specs.Deeds.Deed.{Sent, Broke, Lost, Closed, Heard, Silent, Pulled, Left}
+use Rattle.dq_wires.specs.ConnectionActions.{ConnectionAction}
+use Rattle.dq_wires.specs.ConnectionActions.ConnectionAction.{Sent, WriteFailed, LastWriteFailed, Closed, Received, Idle, Pulled, PeerLeft}
 use Rattle.dq_wires.specs.Turns.{Done, calls_of, done_steps, Hold, Turn}
 
 -- those of the replies to its events
@@ -25,28 +25,28 @@ abbrev pub written_in : Done → List ℕ
 written_in d = flat_map octets_taken (calls_of d)
 
 -- what had not been written when a connection was given up
-abbrev pub deed_lost : HeldWire → Deed → List ℕ
-deed_lost wire (Sent count) = []
-deed_lost wire (Broke reply shut) = wire.unsent ++ reply_octets reply
-deed_lost wire (Lost shut) = wire.unsent
-deed_lost wire (Closed shut) = []
-deed_lost wire (Heard octets reply) = []
-deed_lost wire Silent = []
-deed_lost wire (Pulled reply) = []
-deed_lost wire (Left came reply shut) = reply_octets reply
+abbrev pub action_lost : HeldConnection → ConnectionAction → List ℕ
+action_lost wire (Sent count) = []
+action_lost wire (WriteFailed reply shut) = wire.unsent ++ reply_octets reply
+action_lost wire (LastWriteFailed shut) = wire.unsent
+action_lost wire (Closed shut) = []
+action_lost wire (Received octets reply) = []
+action_lost wire Idle = []
+action_lost wire (Pulled reply) = []
+action_lost wire (PeerLeft came reply shut) = reply_octets reply
 
 abbrev pub lost_in : Done → List ℕ
-lost_in d = deed_lost d.wire d.deed
+lost_in d = action_lost d.wire d.action
 
-abbrev pub unsent_of : HeldWire → List ℕ
+abbrev pub unsent_of : HeldConnection → List ℕ
 unsent_of wire = wire.unsent
 
 -- those of the connection with a number
 abbrev pub on : ℕ → ℕ → List ℕ → List ℕ
 on number other octets = if other == number then octets else []
 
-abbrev pub held_on : ℕ → List HeldWire → List ℕ
-held_on number held = flat_map (λ (w : HeldWire). on number w.number w.unsent) held
+abbrev pub held_on : ℕ → List HeldConnection → List ℕ
+held_on number held = flat_map (λ (w : HeldConnection). on number w.number w.unsent) held
 
 abbrev pub done_on : ℕ → (Done → List ℕ) → List Done → List ℕ
 done_on number octets done = flat_map (λ (d : Done). on number d.wire.number (octets d)) done
@@ -59,7 +59,7 @@ abbrev pub turns_done : List Turn → List Done
 turns_done turns = flat_map done_of turns
 
 -- Numbers rise strictly from above the first to the second at most.
-abbrev pub RisesTo : ℕ → ℕ → List HeldWire → Type 0
+abbrev pub RisesTo : ℕ → ℕ → List HeldConnection → Type 0
 RisesTo low high [] = low ≤ high
 RisesTo low high (w ∷ held) = (low < w.number) × RisesTo w.number high held
 

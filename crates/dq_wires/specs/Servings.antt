@@ -10,12 +10,12 @@ use Rattle.dq_core.specs.ServerView.{ServerView, Refines}
 use Rattle.dq_core.specs.Looking.{Looked}
 use Rattle.dq_wires.specs.declared.calls.Call.{Call}
 use Rattle.dq_wires.specs.Logs.{LogsAll}
-use Rattle.dq_wires.specs.Held.{reply_octets}
+use Rattle.dq_wires.specs.HeldConnections.{reply_octets}
 use Rattle.dq_wires.specs.Steps.{Step, Runs, events_of, replies_of}
-use Rattle.dq_wires.specs.Stepping.{Moves}
-use Rattle.dq_wires.specs.Deeds.{event_steps}
+use Rattle.dq_wires.specs.ServerSteps.{Moves}
+use Rattle.dq_wires.specs.ConnectionActions.{event_steps}
 use Rattle.dq_wires.specs.Turns.{Done, Hold, Turn, IsTurn, turn_calls, turn_steps, after_turn, Cut, IsCut, cut_steps}
-use Rattle.dq_wires.specs.Turns.Cut.{NoRoom, Unaccepted, Unopened, Midway}
+use Rattle.dq_wires.specs.Turns.Cut.{NoRoom, AcceptFailed, OpenFailed, Midway}
 use Rattle.dq_wires.specs.Turners.{IsOrder}
 use Rattle.dq_wires.specs.Octets.{written_in, done_on}
 
@@ -77,8 +77,8 @@ pub record Serving {Tables : Type 0} (state : Tables → State) (rows : List Row
 -- the turns of connections before a fault
 abbrev pub cut_done : Cut → List Done
 cut_done NoRoom = []
-cut_done Unaccepted = []
-cut_done (Unopened place number) = []
+cut_done AcceptFailed = []
+cut_done (OpenFailed place number) = []
 cut_done (Midway taking done wire at) = done
 
 abbrev pub served_steps : List Act → Cut → List Step

@@ -12,7 +12,7 @@ use Rattle.dq_wires.specs.Logs.{one_more_failure}
 use Rattle.dq_wires.specs.Turns.{Hold, accept_failure}
 
 -- Its server, the connections that are held, and the fault that stopped it.
-pub record Turning (Tables : Type 0) : Type 0 where
+pub record TurnerView (Tables : Type 0) : Type 0 where
   pub server : ServerView Tables
   pub hold : Hold
   pub fault : Option TurnFault
@@ -36,8 +36,8 @@ first_fault None fault = fault
 first_fault (Some earlier) fault = earlier
 
 -- The last call that is told is an accept that failed.
-abbrev pub EndsUnaccepted : Option (List Call) → Type 0
-EndsUnaccepted log = IfSome log (λ calls.
+abbrev pub EndsInFailedAccept : Option (List Call) → Type 0
+EndsInFailedAccept log = IfSome log (λ calls.
     (earlier : List Call) × (calls ≡ earlier ++ Accept accept_failure ∷ []))
 
 -- The count of failed accepts after turns: one more where no connection could be accepted.

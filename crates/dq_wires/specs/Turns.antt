@@ -12,43 +12,43 @@ use Rattle.dq_wires.specs.declared.fault.TurnFault.{TurnFault}
 use Rattle.dq_wires.specs.declared.fault.TurnFault.TheVariants.{Network}
 use Rattle.dq_wires.specs.Limits.{most_wires}
 use Rattle.dq_wires.specs.Logs.{LogsAll}
-use Rattle.dq_wires.specs.Held.{HeldWire, new_held}
+use Rattle.dq_wires.specs.HeldConnections.{HeldConnection, new_held}
 use Rattle.dq_wires.specs.Steps.{Step, Runs, StopsBy}
-use Rattle.dq_wires.specs.Deeds.{Deed, IsDue, deed_calls, deed_steps, deed_after, event_steps, Break, IsBreak, break_calls, break_event}
+use Rattle.dq_wires.specs.ConnectionActions.{ConnectionAction, IsDue, action_calls, action_steps, action_after, event_steps, Break, IsBreak, break_calls, break_event}
 
 -- A connection as its turn came, and what was done.
 pub record Done : Type 0 where
-  pub wire : HeldWire
-  pub deed : Deed
+  pub wire : HeldConnection
+  pub action : ConnectionAction
 
-abbrev pub wire_of : Done → HeldWire
-wire_of d = d.wire
+abbrev pub connection_of : Done → HeldConnection
+connection_of d = d.wire
 
 abbrev pub calls_of : Done → List Call
-calls_of d = deed_calls d.wire d.deed
+calls_of d = action_calls d.wire d.action
 
 abbrev pub done_steps : Done → List Step
-done_steps d = deed_steps d.wire d.deed
+done_steps d = action_steps d.wire d.action
 
-abbrev pub wires_kept : Done → List HeldWire
-wires_kept d = deed_after d.wire d.deed
+abbrev pub connections_kept : Done → List HeldConnection
+connections_kept d = action_after d.wire d.action
 
--- each deed is one for its connection
+-- each action is one for its connection
 abbrev pub AreDue : List Done → Type 0
 AreDue [] = Unit {0}
-AreDue (d ∷ done) = IsDue d.wire d.deed × AreDue done
+AreDue (d ∷ done) = IsDue d.wire d.action × AreDue done
 
 -- the connections that are held, by rising number, and the number that was given last
 pub record Hold : Type 0 where
-  pub held : List HeldWire
+  pub held : List HeldConnection
   pub newest : ℕ
 
 abbrev pub greatest_number : ℕ
 greatest_number = 2 ^ 64 - 1
 
 -- whether there is room for one more, and a number
-abbrev pub has_room_for_wire : Hold → Bool
-has_room_for_wire h = nat_lt (length h.held) most_wires && nat_lt h.newest greatest_number
+abbrev pub has_room_for_connection : Hold → Bool
+has_room_for_connection h = nat_lt (length h.held) most_wires && nat_lt h.newest greatest_number
 
 -- How a turn begins.
 pub data Taking : Type 0 where
@@ -57,29 +57,29 @@ pub data Taking : Type 0 where
   -- none came
   Nobody : Taking
   -- one came at this place, and was opened under this number
-  ReadOutcome : ℕ → ℕ → Reply → Taking
+  NewConnection : ℕ → ℕ → Reply → Taking
 
 -- One is asked for where there is room, and has the next number.
 abbrev pub IsTaking : Hold → Taking → Type 0
-IsTaking h Full = has_room_for_wire h ≡ false
-IsTaking h Nobody = has_room_for_wire h ≡ true
-IsTaking h (ReadOutcome place number reply) = (has_room_for_wire h ≡ true) × (number ≡ h.newest + 1)
+IsTaking h Full = has_room_for_connection h ≡ false
+IsTaking h Nobody = has_room_for_connection h ≡ true
+IsTaking h (NewConnection place number reply) = (has_room_for_connection h ≡ true) × (number ≡ h.newest + 1)
 
 abbrev pub taking_calls : Taking → List Call
 taking_calls Full = []
 taking_calls Nobody = Accept (Ok None) ∷ []
-taking_calls (ReadOutcome place number reply) = Accept (Ok (Some place)) ∷ []
+taking_calls (NewConnection place number reply) = Accept (Ok (Some place)) ∷ []
 
 abbrev pub taking_steps : Taking → List Step
 taking_steps Full = []
 taking_steps Nobody = []
-taking_steps (ReadOutcome place number reply) = event_steps (Open number) reply
+taking_steps (NewConnection place number reply) = event_steps (Open number) reply
 
 -- the new connection is held last
 abbrev pub with_taken : Hold → Taking → Hold
 with_taken h Full = h
 with_taken h Nobody = h
-with_taken h (ReadOutcome place number reply) =
+with_taken h (NewConnection place number reply) =
     record { held = h.held ++ new_held place number ∷ []; newest = number }
 
 -- a turn of all
@@ -87,10 +87,10 @@ pub record Turn : Type 0 where
   pub taking : Taking
   pub done : List Done
 
--- Every connection that is held has one deed, the new one too, in order.
+-- Every connection that is held has one action, the new one too, in order.
 pub record IsTurn (h : Hold) (t : Turn) : Type 0 where
   pub takes : IsTaking h t.taking
-  pub each : map wire_of t.done ≡ (with_taken h t.taking).held
+  pub each : map connection_of t.done ≡ (with_taken h t.taking).held
   pub due : AreDue t.done
 
 abbrev pub turn_calls : Turn → List Call
@@ -101,7 +101,7 @@ turn_steps t = taking_steps t.taking ++ flat_map done_steps t.done
 
 abbrev pub after_turn : Hold → Turn → Hold
 after_turn h t =
-    record { held = flat_map wires_kept t.done; newest = (with_taken h t.taking).newest }
+    record { held = flat_map connections_kept t.done; newest = (with_taken h t.taking).newest }
 
 -- turns one after the other
 abbrev pub AreTurns : Hold → List Turn → Type 0
@@ -123,25 +123,25 @@ pub data Cut : Type 0 where
   -- before any call: there is no memory for one more connection, or for what is read
   NoRoom : Cut
   -- no connection can be accepted
-  Unaccepted : Cut
+  AcceptFailed : Cut
   -- one came at this place, and the server failed at its opening, under this number
-  Unopened : ℕ → ℕ → Cut
+  OpenFailed : ℕ → ℕ → Cut
   -- after the turns of some connections, in that of another
-  Midway : Taking → List Done → HeldWire → Break → Cut
+  Midway : Taking → List Done → HeldConnection → Break → Cut
 
 -- The turn was one up to there.
-pub record IsMidway (h : Hold) (taking : Taking) (done : List Done) (wire : HeldWire)
+pub record IsMidway (h : Hold) (taking : Taking) (done : List Done) (wire : HeldConnection)
     (at : Break) : Type 0 where
   pub takes : IsTaking h taking
-  pub others : List HeldWire
-  pub each : map wire_of done ++ wire ∷ others ≡ (with_taken h taking).held
+  pub others : List HeldConnection
+  pub each : map connection_of done ++ wire ∷ others ≡ (with_taken h taking).held
   pub due : AreDue done
   pub breaks : IsBreak wire at
 
 abbrev pub IsCut : Hold → Cut → Type 0
 IsCut h NoRoom = Unit {0}
-IsCut h Unaccepted = has_room_for_wire h ≡ true
-IsCut h (Unopened place number) = (has_room_for_wire h ≡ true) × (number ≡ h.newest + 1)
+IsCut h AcceptFailed = has_room_for_connection h ≡ true
+IsCut h (OpenFailed place number) = (has_room_for_connection h ≡ true) × (number ≡ h.newest + 1)
 IsCut h (Midway taking done wire at) = IsMidway h taking done wire at
 
 -- the failure of an accept
@@ -151,24 +151,24 @@ accept_failure = Err (record {})
 -- its calls
 abbrev pub cut_calls : Cut → List Call
 cut_calls NoRoom = []
-cut_calls Unaccepted = Accept accept_failure ∷ []
-cut_calls (Unopened place number) = Accept (Ok (Some place)) ∷ []
+cut_calls AcceptFailed = Accept accept_failure ∷ []
+cut_calls (OpenFailed place number) = Accept (Ok (Some place)) ∷ []
 cut_calls (Midway taking done wire at) =
     taking_calls taking ++ (flat_map calls_of done ++ break_calls wire at)
 
 -- the events that were answered in it
 abbrev pub cut_steps : Cut → List Step
 cut_steps NoRoom = []
-cut_steps Unaccepted = []
-cut_steps (Unopened place number) = []
+cut_steps AcceptFailed = []
+cut_steps (OpenFailed place number) = []
 cut_steps (Midway taking done wire at) = taking_steps taking ++ flat_map done_steps done
 
 -- what the fault is, and of which event
 abbrev pub CutStops : {State : Type 0} → (State → State → Event → Fault → Type 0)
     → State → State → Cut → TurnFault → Type 0
 CutStops Fails old new NoRoom fault = StopsBy Fails old new None fault
-CutStops Fails old new Unaccepted fault = (new ≡ old) × (fault ≡ Network)
-CutStops Fails old new (Unopened place number) fault =
+CutStops Fails old new AcceptFailed fault = (new ≡ old) × (fault ≡ Network)
+CutStops Fails old new (OpenFailed place number) fault =
     StopsBy Fails old new (Some (Open number)) fault
 CutStops Fails old new (Midway taking done wire at) fault =
     StopsBy Fails old new (break_event wire at) fault

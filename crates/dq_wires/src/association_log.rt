@@ -149,7 +149,7 @@ impl<L: Write + Drop> AssociationLog<L> {
                 Some(*number),
                 LineContent::Ended {
                     noted,
-                    tally: opened.tally,
+                    counts: opened.counts,
                     milliseconds: milliseconds_between(opened.since, time),
                 },
             );

@@ -20,12 +20,12 @@ ghost use Rattle.dq_core.specs.Looking.{Looked};
 ghost use Rattle.dq_wires.specs.declared.calls.Call.{Call};
 ghost use Rattle.dq_wires.specs.declared.fault.TurnFault.{TurnFault};
 ghost use Rattle.dq_wires.specs.Limits.{most_wires};
-ghost use Rattle.dq_wires.specs.Held.{HeldWire};
+ghost use Rattle.dq_wires.specs.HeldConnections.{HeldConnection};
 ghost use Rattle.dq_wires.specs.Steps.{Step, Runs, replies_of};
-ghost use Rattle.dq_wires.specs.Deeds.{Deed, IsDue};
-ghost use Rattle.dq_wires.specs.Stepping.{Stepped, Moves, Fails};
+ghost use Rattle.dq_wires.specs.ConnectionActions.{ConnectionAction, IsDue};
+ghost use Rattle.dq_wires.specs.ServerSteps.{Stepped, Moves, Fails};
 ghost use Rattle.dq_wires.specs.Serving.{Serves};
-ghost use Rattle.dq_wires.specs.Turns.{Done, wires_kept, Hold, Turn, IsTurn, AreTurns, after_turn, after_turns, Cut, TurnsWent, TurnsCut};
+ghost use Rattle.dq_wires.specs.Turns.{Done, connections_kept, Hold, Turn, IsTurn, AreTurns, after_turn, after_turns, Cut, TurnsWent, TurnsCut};
 ghost use Rattle.dq_wires.specs.Turns.Cut.{NoRoom};
 ghost use Rattle.dq_wires.specs.Turners.{IsOrder};
 ghost use Rattle.dq_wires.specs.Octets.{answered_in, written_in, lost_in, unsent_of, held_on, done_on, turns_done, IsNumbered};
@@ -52,10 +52,10 @@ pub fn steps_are_a_history<T: Tables>()
 /// answered, is what is written, what is lost with a connection that is given up, and what is then
 /// unsent; and so over whole turns, under the number of each connection.
 pub fn octets_are_conserved()
-    ensures turn { (wire : HeldWire) (deed : Deed) → IsDue wire deed →
-        let d : Done = record { wire = wire; deed = deed } in
+    ensures turn { (wire : HeldConnection) (action : ConnectionAction) → IsDue wire action →
+        let d : Done = record { wire = wire; action = action } in
         wire.unsent ++ answered_in d
-        ≡ written_in d ++ (lost_in d ++ flat_map unsent_of (wires_kept d)) }
+        ≡ written_in d ++ (lost_in d ++ flat_map unsent_of (connections_kept d)) }
     ensures turns { (number : ℕ) (h : Hold) (turns : List Turn) →
         IsNumbered h → AreTurns h turns →
         let done = turns_done turns in

@@ -1,6 +1,6 @@
 //! The lines of a log.
 use crate::given_up::GivenUp;
-use crate::watched::Tally;
+use crate::watched::ServedCounts;
 use dq_assoc::Service;
 use dq_core::{LogEvent, Party, QuerySummary, Titles};
 use dq_list::Listed;
@@ -24,7 +24,7 @@ pub(crate) enum LineContent<'a> {
     /// An association ended, by what was noted, after so many milliseconds.
     Ended {
         noted: &'a LogEvent,
-        tally: Tally,
+        counts: ServedCounts,
         milliseconds: u64,
     },
     /// A connection was given up.
@@ -256,13 +256,13 @@ impl fmt::Display for LogLine<'_> {
             } => write_noted(f, noted, Address(peer), milliseconds),
             LineContent::Ended {
                 noted,
-                tally,
+                counts,
                 milliseconds,
             } => {
                 let (seconds, rest) = (milliseconds / 1000, milliseconds % 1000);
                 write!(
                     f,
-                    "ended {} {seconds}.{rest:03} s {tally}",
+                    "ended {} {seconds}.{rest:03} s {counts}",
                     ending_of(noted)
                 )
             }

@@ -4,11 +4,11 @@ ghost use Rattle.std.specs.List.{position};
 ghost use Rattle.dq_tables.specs.declared.row.Row.{Row};
 ghost use Rattle.dq_core.specs.Histories.{is_above, opened_numbers};
 ghost use Rattle.dq_core.specs.ServerView.{ServerView, Refines};
-ghost use Rattle.dq_wires.specs.Held.{wire_with};
+ghost use Rattle.dq_wires.specs.HeldConnections.{connection_with};
 ghost use Rattle.dq_wires.specs.Turns.{Hold};
 ghost use Rattle.dq_wires.specs.Turners.{IsOrder};
 ghost use Rattle.dq_wires.specs.Servings.{Act, nothing_held, Serving};
-ghost use Rattle.dq_wires.specs.Looping.{orders_of, line_number, has_number, sent_number, IsHeard, IsPlayed, ArePlayed, IsCome, ActsOn, PlaysOn};
+ghost use Rattle.dq_wires.specs.Looping.{orders_of, capture_number, has_number, sent_number, IsHeard, IsPlayed, ArePlayed, IsCome, ActsOn, PlaysOn};
 
 use crate::calls::{ReadTurn, WireFault};
 use crate::clients::{Called, SocketClient};
@@ -79,17 +79,17 @@ impl Side {
 
 /// A connection of the capture: its number there.
 #[derive(Drop)]
-struct Line {
+struct CaptureConnection {
     number: u64,
     side: Side,
 }
 
-impl Line {
+impl CaptureConnection {
     /// What it was sent.
     fn into_sent(self) -> Sent
         ensures { result.number ≡ self.number }
     {
-        let Line { number, side } = self;
+        let CaptureConnection { number, side } = self;
         let Side { client: _, heard } = side;
         Sent {
             number,
@@ -150,9 +150,9 @@ impl<'a, T: Tables, W: Called<M>, M> Loopback<'a, T, W, M> {
 
     /// Whether what is wanted came to be.
     fn is_come(&self, given: u64, wanted: Wanted) -> bool
-        ensures { IsTrue result → IsCome wanted (wire_with given self.now.turner.hold.held) }
+        ensures { IsTrue result → IsCome wanted (connection_with given self.now.turner.hold.held) }
     {
-        match self.turner.wire(given) {
+        match self.turner.connection(given) {
             None => true,
             Some(wire) => match wanted {
                 Wanted::Heard(count) => wire.heard() == count || wire.is_closed(),
@@ -164,7 +164,7 @@ impl<'a, T: Tables, W: Called<M>, M> Loopback<'a, T, W, M> {
     /// Whether that is so, no C-FIND is open, nothing is unsent, and the clients have taken all that
     /// was written.
     fn is_over(&self, given: u64, wanted: Wanted) -> bool
-        ensures { IsTrue result → IsCome wanted (wire_with given self.now.turner.hold.held) }
+        ensures { IsTrue result → IsCome wanted (connection_with given self.now.turner.hold.held) }
     {
         self.is_come(given, wanted)
             && !self.turner.is_pending()
@@ -175,7 +175,7 @@ impl<'a, T: Tables, W: Called<M>, M> Loopback<'a, T, W, M> {
     /// Turns, while the client sends octets and takes what is written, until all is over.
     fn exchange(
         &mut self,
-        line: &mut Line,
+        line: &mut CaptureConnection,
         given: u64,
         octets: &[u8],
         wanted: Wanted,
@@ -184,7 +184,7 @@ impl<'a, T: Tables, W: Called<M>, M> Loopback<'a, T, W, M> {
         ensures acts { OnOk result (ActsOn T.state (W.log self.old.wires.wires)
             (W.log self.new.wires.wires) self.old.turner self.new.turner []) }
         ensures come { OnOk result
-            (IsCome wanted (wire_with given self.new.turner.hold.held)) }
+            (IsCome wanted (connection_with given self.new.turner.hold.held)) }
         ensures number { line.new.number ≡ line.old.number }
     {
         let mut rest = octets;
@@ -206,15 +206,20 @@ impl<'a, T: Tables, W: Called<M>, M> Loopback<'a, T, W, M> {
     }
 
     /// A client connects, and is accepted.
-    fn open(&mut self, lines: &mut Vec<Line>, alloc: Global, number: u64) -> Result<(), TurnFault>
+    fn open(
+        &mut self,
+        lines: &mut Vec<CaptureConnection>,
+        alloc: Global,
+        number: u64,
+    ) -> Result<(), TurnFault>
         requires { self.old.turner.fault ≡ None }
         ensures acts { OnOk result (ActsOn T.state (W.log self.old.wires.wires)
             (W.log self.new.wires.wires) self.old.turner self.new.turner []) }
         ensures opened { OnOk result ((self.old.turner.hold.newest ≡ length lines.old.items)
             × (self.new.turner.hold.newest ≡ length lines.old.items + 1)
-            × (wire_with self.new.turner.hold.newest self.new.turner.hold.held ≢ None)) }
-        ensures number { OnOk result (map line_number lines.new.items
-            ≡ map line_number lines.old.items ++ number ∷ []) }
+            × (connection_with self.new.turner.hold.newest self.new.turner.hold.held ≢ None)) }
+        ensures number { OnOk result (map capture_number lines.new.items
+            ≡ map capture_number lines.old.items ++ number ∷ []) }
     {
         let given = given_at(lines.len())?;
         if self.turner.newest() != lines.len() as u64 {
@@ -227,10 +232,10 @@ impl<'a, T: Tables, W: Called<M>, M> Loopback<'a, T, W, M> {
         if self.turner.newest() != given {
             return Err(TurnFault::Network);
         }
-        let Some(_wire) = self.turner.wire(given) else {
+        let Some(_wire) = self.turner.connection(given) else {
             return Err(TurnFault::Network);
         };
-        lines.push(Line {
+        lines.push(CaptureConnection {
             number,
             side: Side {
                 client: Some(client),
@@ -241,34 +246,39 @@ impl<'a, T: Tables, W: Called<M>, M> Loopback<'a, T, W, M> {
     }
 
     /// The client sends octets, until the server has stepped them all.
-    fn send(&mut self, line: &mut Line, given: u64, octets: &[u8]) -> Result<(), TurnFault>
+    fn send(
+        &mut self,
+        line: &mut CaptureConnection,
+        given: u64,
+        octets: &[u8],
+    ) -> Result<(), TurnFault>
         requires { self.old.turner.fault ≡ None }
         ensures acts { OnOk result (ActsOn T.state (W.log self.old.wires.wires)
             (W.log self.new.wires.wires) self.old.turner self.new.turner []) }
         ensures heard { OnOk result (IsHeard octets.now
-            (wire_with given self.old.turner.hold.held)
-            (wire_with given self.new.turner.hold.held)) }
+            (connection_with given self.old.turner.hold.held)
+            (connection_with given self.new.turner.hold.held)) }
         ensures number { line.new.number ≡ line.old.number }
     {
-        let Some(wire) = self.turner.wire(given) else {
+        let Some(wire) = self.turner.connection(given) else {
             return Ok(());
         };
         let Some(count) = wire.heard().checked_add(octets.len() as u64) else {
             return Err(TurnFault::NoMemory);
         };
         self.exchange(line, given, octets, Wanted::Heard(count))?;
-        let Some(_wire) = self.turner.wire(given) else {
+        let Some(_wire) = self.turner.connection(given) else {
             return Err(TurnFault::Network);
         };
         Ok(())
     }
 
     /// The client sends no more, until the server has let go of the connection.
-    fn end(&mut self, line: &mut Line, given: u64) -> Result<(), TurnFault>
+    fn end(&mut self, line: &mut CaptureConnection, given: u64) -> Result<(), TurnFault>
         requires { self.old.turner.fault ≡ None }
         ensures acts { OnOk result (ActsOn T.state (W.log self.old.wires.wires)
             (W.log self.new.wires.wires) self.old.turner self.new.turner []) }
-        ensures gone { OnOk result (wire_with given self.new.turner.hold.held ≡ None) }
+        ensures gone { OnOk result (connection_with given self.new.turner.hold.held ≡ None) }
         ensures number { line.new.number ≡ line.old.number }
     {
         line.side.end()?;
@@ -288,26 +298,31 @@ impl<'a, T: Tables, W: Called<M>, M> Loopback<'a, T, W, M> {
 
     /// Has an event come about. One of a connection that was not opened is passed over, and so is a
     /// pull: turns pull by themselves.
-    fn play(&mut self, lines: &mut Vec<Line>, alloc: Global, event: Event) -> Result<(), TurnFault>
+    fn play(
+        &mut self,
+        lines: &mut Vec<CaptureConnection>,
+        alloc: Global,
+        event: Event,
+    ) -> Result<(), TurnFault>
         requires { self.old.turner.fault ≡ None }
         ensures acts { OnOk result (ActsOn T.state (W.log self.old.wires.wires)
             (W.log self.new.wires.wires) self.old.turner self.new.turner
             (orders_of (event ∷ []))) }
-        ensures played { OnOk result (IsPlayed (map line_number lines.old.items) event
+        ensures played { OnOk result (IsPlayed (map capture_number lines.old.items) event
             self.old.turner.hold self.new.turner.hold) }
-        ensures numbers { OnOk result (map line_number lines.new.items
-            ≡ map line_number lines.old.items ++ opened_numbers (event ∷ [])) }
+        ensures numbers { OnOk result (map capture_number lines.new.items
+            ≡ map capture_number lines.old.items ++ opened_numbers (event ∷ [])) }
     {
         match event {
             Event::Open(number) => self.open(lines, alloc, number),
-            Event::Piece(number, octets) => match line_with(lines.as_slice(), number) {
+            Event::Piece(number, octets) => match index_with(lines.as_slice(), number) {
                 Some(at) => {
                     let given = given_at(at)?;
                     self.send(&mut lines[at], given, octets.as_slice())
                 }
                 None => Ok(()),
             },
-            Event::End(number) => match line_with(lines.as_slice(), number) {
+            Event::End(number) => match index_with(lines.as_slice(), number) {
                 Some(at) => {
                     let given = given_at(at)?;
                     self.end(&mut lines[at], given)
@@ -323,7 +338,7 @@ impl<'a, T: Tables, W: Called<M>, M> Loopback<'a, T, W, M> {
     /// Has events come about, each before the next.
     fn play_all(
         &mut self,
-        lines: &mut Vec<Line>,
+        lines: &mut Vec<CaptureConnection>,
         alloc: Global,
         events: Vec<Event>,
     ) -> Result<(), TurnFault>
@@ -332,7 +347,7 @@ impl<'a, T: Tables, W: Called<M>, M> Loopback<'a, T, W, M> {
         ensures plays { OnOk result (PlaysOn T.state (W.log self.old.wires.wires)
             (W.log self.new.wires.wires) self.old.turner self.new.turner events.items) }
         ensures numbers { OnOk result
-            (map line_number lines.new.items ≡ opened_numbers events.items) }
+            (map capture_number lines.new.items ≡ opened_numbers events.items) }
     {
         for event in events {
             self.play(lines, alloc, event)?;
@@ -359,7 +374,7 @@ fn hear(
 }
 
 /// Where the connection of a number stands, if one was opened.
-fn line_with(lines: &[Line], number: u64) -> Option<usize>
+fn index_with(lines: &[CaptureConnection], number: u64) -> Option<usize>
     ensures at { result ≡ position (has_number number) lines.now }
     ensures within { IfSome result (λ at. at < length lines.now) }
 {
@@ -374,8 +389,8 @@ fn given_at(at: usize) -> Result<u64, TurnFault>
 }
 
 /// What each connection was sent.
-fn sent_on(alloc: Global, lines: Vec<Line>) -> Result<Vec<Sent>, AllocError>
-    ensures { IfOk result (λ sent. map sent_number sent.items ≡ map line_number lines.items) }
+fn sent_on(alloc: Global, lines: Vec<CaptureConnection>) -> Result<Vec<Sent>, AllocError>
+    ensures { IfOk result (λ sent. map sent_number sent.items ≡ map capture_number lines.items) }
 {
     let mut all = Vec::with_capacity(alloc, lines.len())?;
     for line in lines {

@@ -4,8 +4,8 @@ ghost use Rattle.std.specs.Prelude.{◌≡◌};
 use crate::calls::{ReadTurn, WireFault};
 use crate::given_up::{GivenUp, GivesUp, Limits, Reason};
 use crate::limits::MOST_WIRES;
-use crate::line::Line;
 use crate::socket::{Door, Socket};
+use crate::socket_connection::SocketConnection;
 use crate::wires::Wires;
 use mio::unix::SourceFd;
 use mio::{Events, Interest, Poll, Token};
@@ -47,7 +47,7 @@ pub struct SocketWires {
     door: Door,
     is_called: bool,
     is_called_beside: bool,
-    lines: Vec<Option<Line>>,
+    connections: Vec<Option<SocketConnection>>,
     is_busy: bool,
     reading: Reading,
     limits: Limits,
@@ -83,9 +83,9 @@ impl SocketWires {
         let poll = Poll::new(rt)?;
         door.register(poll.registry(), LISTENER)?;
         let events = Events::with_capacity(alloc, MOST_EVENTS)?;
-        let mut lines = Vec::new(alloc);
+        let mut connections = Vec::new(alloc);
         for _ in 0..MOST_WIRES {
-            lines.push(None)?;
+            connections.push(None)?;
         }
         Ok(SocketWires {
             clock: *rt,
@@ -94,7 +94,7 @@ impl SocketWires {
             door,
             is_called: true,
             is_called_beside: false,
-            lines,
+            connections,
             is_busy: false,
             reading: Reading::default(),
             limits: Limits::default(),
@@ -133,9 +133,9 @@ impl SocketWires {
             was_short: self.reading.is_short,
             ..Reading::default()
         };
-        for slot in self.lines.iter_mut() {
-            if let Some(line) = slot {
-                line.begin_turn();
+        for slot in self.connections.iter_mut() {
+            if let Some(connection) = slot {
+                connection.begin_turn();
             }
         }
     }
@@ -157,21 +157,21 @@ impl SocketWires {
                 self.is_called = true;
             } else if event.token() == OTHERS {
                 self.is_called_beside = true;
-            } else if let Some(Some(line)) = self.lines.get_mut(place) {
-                line.wake(event);
+            } else if let Some(Some(connection)) = self.connections.get_mut(place) {
+                connection.wake(event);
             }
         }
         self.grow_old(Instant::now(clock)?);
         Ok(())
     }
 
-    // The time since the system was last asked has passed on each line.
+    // The time since the system was last asked has passed on each connection.
     fn grow_old(&mut self, now: Instant) {
         if let Some(before) = self.rested {
             let time = now.duration_since(before);
-            for slot in self.lines.iter_mut() {
-                if let Some(line) = slot {
-                    line.grow_old(time);
+            for slot in self.connections.iter_mut() {
+                if let Some(connection) = slot {
+                    connection.grow_old(time);
                 }
             }
         }
@@ -227,8 +227,8 @@ impl SocketWires {
     fn gives_way(&mut self, place: usize) -> bool
         ensures { self.new.failed_accepts ≡ self.old.failed_accepts }
     {
-        match self.lines.get(place) {
-            Some(Some(line)) if line.is_waiting() && line.peer().is_some() => {}
+        match self.connections.get(place) {
+            Some(Some(connection)) if connection.is_waiting() && connection.peer().is_some() => {}
             _ => return false,
         }
         let is_long = self.is_long();
@@ -240,20 +240,20 @@ impl SocketWires {
         }
         self.is_busy = true;
         self.reading.is_short = true;
-        if let Some(Some(line)) = self.lines.get_mut(place) {
-            line.give_way();
+        if let Some(Some(connection)) = self.connections.get_mut(place) {
+            connection.give_way();
         }
         true
     }
 
     // Whether there is one to which it leaves its read.
     fn is_preceded(&self, place: usize, is_long: bool) -> bool {
-        let Some(Some(line)) = self.lines.get(place) else {
+        let Some(Some(connection)) = self.connections.get(place) else {
             return false;
         };
-        for (at, slot) in self.lines.iter().enumerate() {
+        for (at, slot) in self.connections.iter().enumerate() {
             if let Some(other) = slot {
-                if at != place && other.goes_before(line, is_long) {
+                if at != place && other.goes_before(connection, is_long) {
                     return true;
                 }
             }
@@ -265,7 +265,7 @@ impl SocketWires {
     fn one_too_many(&self, peer: Option<SocketAddr>) -> Option<GivenUp> {
         let most = self.limits.peer_connections?;
         let address = peer?;
-        let held = self.lines.iter().filter(|slot| is_of(slot, address));
+        let held = self.connections.iter().filter(|slot| is_of(slot, address));
         if held.count() < most {
             return None;
         }
@@ -280,16 +280,16 @@ impl SocketWires {
         ensures { self.new.failed_accepts ≡ self.old.failed_accepts }
     {
         socket.register(self.poll.registry(), Token(place)).ok()?;
-        let slot = self.lines.get_mut(place)?;
-        *slot = Some(Line::new(socket, peer));
+        let slot = self.connections.get_mut(place)?;
+        *slot = Some(SocketConnection::new(socket, peer));
         Some(place)
     }
 }
 
 // Whether a slot has a connection of an address.
-fn is_of(slot: &Option<Line>, peer: SocketAddr) -> bool {
+fn is_of(slot: &Option<SocketConnection>, peer: SocketAddr) -> bool {
     match slot {
-        Some(line) => line.is_of(peer),
+        Some(connection) => connection.is_of(peer),
         None => false,
     }
 }
@@ -314,7 +314,11 @@ impl Wires for SocketWires {
         if !self.is_called {
             return Ok(None);
         }
-        let Some(place) = self.lines.iter().position(|line| line.is_none()) else {
+        let Some(place) = self
+            .connections
+            .iter()
+            .position(|connection| connection.is_none())
+        else {
             return Ok(None);
         };
         match self.door.accept() {
@@ -342,10 +346,10 @@ impl Wires for SocketWires {
         if self.gives_way(place) {
             return Ok(ReadTurn::Nothing);
         }
-        let Some(Some(line)) = self.lines.get_mut(place) else {
+        let Some(Some(connection)) = self.connections.get_mut(place) else {
             return Err(WireFault);
         };
-        match line.read(buffer, &self.limits)? {
+        match connection.read(buffer, &self.limits)? {
             ReadTurn::Nothing => Ok(ReadTurn::Nothing),
             turn => {
                 self.is_busy = true;
@@ -355,10 +359,10 @@ impl Wires for SocketWires {
     }
 
     fn write(&mut self, place: usize, octets: &[u8]) -> Result<usize, WireFault> {
-        let Some(Some(line)) = self.lines.get_mut(place) else {
+        let Some(Some(connection)) = self.connections.get_mut(place) else {
             return Err(WireFault);
         };
-        match line.write(octets, &self.limits)? {
+        match connection.write(octets, &self.limits)? {
             0 => Ok(0),
             count => {
                 self.is_busy = true;
@@ -368,28 +372,28 @@ impl Wires for SocketWires {
     }
 
     fn shut(&mut self, place: usize) -> Result<(), WireFault> {
-        let Some(slot) = self.lines.get_mut(place) else {
+        let Some(slot) = self.connections.get_mut(place) else {
             return Err(WireFault);
         };
         self.is_busy = true;
         match slot.take() {
             None => Err(WireFault),
-            Some(line) => line.end(),
+            Some(connection) => connection.end(),
         }
     }
 }
 
 impl GivesUp for SocketWires {
     fn peer(&self, place: usize) -> Option<SocketAddr> {
-        match self.lines.get(place)? {
-            Some(line) => line.peer(),
+        match self.connections.get(place)? {
+            Some(connection) => connection.peer(),
             None => None,
         }
     }
 
     fn given_up(&self, place: usize) -> Option<GivenUp> {
-        match self.lines.get(place)? {
-            Some(line) => line.given_up(),
+        match self.connections.get(place)? {
+            Some(connection) => connection.given_up(),
             None => None,
         }
     }

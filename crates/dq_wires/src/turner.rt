@@ -5,15 +5,15 @@ ghost use Rattle.dq_core.specs.Histories.{is_above};
 ghost use Rattle.dq_core.specs.Looking.{Looked, FailsToLook};
 ghost use Rattle.dq_core.specs.Showing.{found_for, steps_for};
 ghost use Rattle.dq_tables.specs.Finding.{rows_of};
-ghost use Rattle.dq_wires.specs.Stepping.{Stepped, Moves, Fails};
-ghost use Rattle.dq_wires.specs.Held.{wire_with};
+ghost use Rattle.dq_wires.specs.ServerSteps.{Stepped, Moves, Fails};
+ghost use Rattle.dq_wires.specs.HeldConnections.{connection_with};
 ghost use Rattle.dq_wires.specs.Turns.{TurnsWent, TurnsCut};
-ghost use Rattle.dq_wires.specs.Turners.{IsOrder, first_fault, EndsUnaccepted, failures_after_turns};
+ghost use Rattle.dq_wires.specs.Turners.{IsOrder, first_fault, EndsInFailedAccept, failures_after_turns};
 
+use crate::connection_set::ConnectionSet;
 use crate::fault::TurnFault;
-use crate::rounds::HeldWires;
-use crate::stepping::step_order;
-use crate::wire::Wire;
+use crate::served_connection::ServedConnection;
+use crate::server_step::step_order;
 use crate::wires::Wires;
 use dq_core::{Event, Fault, Notes, Reply, SearchKind, Server, ShownPage, TableInspection};
 use dq_dataset::DataSet;
@@ -27,7 +27,7 @@ use std::marker::Model;
 #[derive(Drop)]
 pub struct Turner<T> {
     server: Server<T>,
-    holding: HeldWires,
+    holding: ConnectionSet,
     fault: Option<TurnFault>,
 }
 
@@ -37,10 +37,10 @@ impl<T> Model for Turner<T> {
     ghost use Rattle.dq_dataset.specs.contracts.data_set.DataSet as data_set;
     ghost use Rattle.slab.specs.Slab.{slab_code};
     ghost use Rattle.std_collections.specs.Layout.BTreeMap.{btree_map_code};
-    ghost use Rattle.dq_wires.specs.Rounds.{hold_in};
-    ghost use Rattle.dq_wires.specs.Turners.{Turning, NextOpens};
+    ghost use Rattle.dq_wires.specs.TurnOutcomes.{hold_in};
+    ghost use Rattle.dq_wires.specs.Turners.{TurnerView, NextOpens};
 
-    ghost Value = { Turning T };
+    ghost Value = { TurnerView T };
 
     ghost coded = { Prim.hlevel (codes, data_set.the_row.coded, T.code, slab_code, btree_map_code) };
 
@@ -63,7 +63,7 @@ impl<T: Tables> Turner<T> {
     {
         Turner {
             server,
-            holding: HeldWires {
+            holding: ConnectionSet {
                 alloc,
                 held: Vec::new(alloc),
                 newest: 0,
@@ -101,9 +101,9 @@ impl<T: Tables> Turner<T> {
     }
 
     /// The connection of a number, if it is held.
-    #[tactic(auto, unfolding(crate::specs::Held::wire_with))]
-    pub(crate) fn wire(&self, number: u64) -> Option<&Wire>
-        ensures { option_copied result ≡ wire_with number self.now.hold.held }
+    #[tactic(auto, unfolding(crate::specs::HeldConnections::connection_with))]
+    pub(crate) fn connection(&self, number: u64) -> Option<&ServedConnection>
+        ensures { option_copied result ≡ connection_with number self.now.hold.held }
     {
         self.holding
             .held
@@ -264,7 +264,7 @@ pub fn turn_all<T: Tables, W: Wires>(
         IfErr result (λ fault. turner.new.fault ≡ Some fault) }
     // No connection can be accepted any more only where an accept failed.
     ensures network { turner.old.fault ≡ None → result ≡ Err TurnFault.Network →
-        EndsUnaccepted (W.log wires.new) }
+        EndsInFailedAccept (W.log wires.new) }
     // One accept failed where no connection can be accepted any more, and none otherwise. The count
     // of failed accepts shows it, also over wires that tell no calls.
     ensures failed { turner.old.fault ≡ None → W.failed_accepts wires.new

@@ -13,7 +13,7 @@ use std::net::SocketAddr;
 /// answered and by how many answers, how many messages of performed procedure steps were taken, and
 /// how many messages were refused.
 #[derive(Clone, Copy, Default)]
-pub(crate) struct Tally {
+pub(crate) struct ServedCounts {
     stores: u64,
     searches: u64,
     answers: u64,
@@ -25,7 +25,7 @@ pub(crate) struct Tally {
 #[derive(Clone, Copy)]
 pub(crate) struct Opened {
     pub since: Timestamp,
-    pub tally: Tally,
+    pub counts: ServedCounts,
 }
 
 /// A connection: its place among the wires, its number, its peer's address if it is known, its
@@ -57,7 +57,7 @@ impl Watched {
             LogEvent::Accepted { .. } => {
                 self.opened = Some(Opened {
                     since: time,
-                    tally: Tally::default(),
+                    counts: ServedCounts::default(),
                 });
             }
             LogEvent::Served {
@@ -67,7 +67,7 @@ impl Watched {
                 ..
             } => {
                 if let Some(opened) = &mut self.opened {
-                    opened.tally.add(*service, *status, *answers);
+                    opened.counts.add(*service, *status, *answers);
                 }
             }
             _ => {}
@@ -86,7 +86,7 @@ impl Watched {
     }
 }
 
-impl Tally {
+impl ServedCounts {
     // Counts a message of a service that was answered.
     fn add(&mut self, service: Service, status: u16, answers: usize) {
         if status != status::SUCCESS && status != status::ELEMENTS_DISCARDED {
@@ -105,7 +105,7 @@ impl Tally {
     }
 }
 
-impl fmt::Display for Tally {
+impl fmt::Display for ServedCounts {
     fn fmt<W: fmt::Write>(&self, f: &mut fmt::Formatter<W>) -> fmt::Result {
         write!(
             f,

@@ -1,6 +1,6 @@
 use Rattle.std.proofs.Common.{ℕ, List, ◌++◌, codes, ap, sym, ◌∙◌, subst}
-use Rattle.dq_web.specs.Asking.{words_in, IsPathAndQuery}
-use Rattle.dq_web.specs.Places.{beneath}
+use Rattle.dq_web.specs.ParsedRequests.{words_in, IsPathAndQuery}
+use Rattle.dq_web.specs.Resources.{beneath}
 use Rattle.dq_web.proofs.Orders.{IsSearchAt-path, searches}
 use Rattle.dq_web.proofs.Taking.{TakesWords-institution}
 use Rattle.dq_web.proofs.laws.a_search_stays_in_its_institution.Goals as goal
@@ -8,8 +8,8 @@ use Rattle.dq_web.proofs.laws.a_search_stays_in_its_institution.Goals as goal
 pub returns : goal.returns
 returns c guard request question search asked is =
     let at = asked.let_in in
-    let it = searches asked.aim.method asked.aim.place asked.aim.query.now request.body.now question.asked search asked.asks is in
-    let below = IsSearchAt-path asked.aim.place at.path it.0 at.at_place it.1 in
+    let it = searches asked.aim.method asked.aim.resource asked.aim.query.now request.body.now question.asked search asked.asks is in
+    let below = IsSearchAt-path asked.aim.resource at.path it.0 at.at_resource it.1 in
     let same = TakesWords-institution (words_in asked.aim.query.now) it.0 search it.2 in
     let path = below.1 ∙ ap (λ (name : List ℕ). codes "/" ++ beneath name below.0) (sym same) in
     (below.0, (at.host, at.text, asked.aim.query.now, at.target, subst (λ (path : List ℕ). IsPathAndQuery at.text path asked.aim.query.now) path at.split))

@@ -1,5 +1,5 @@
 use Rattle.std.proofs.Common.{map, ap, rules}
-use Rattle.dq_wires.specs.Looping.{line_number}
+use Rattle.dq_wires.specs.Looping.{capture_number}
 use Rattle.dq_wires.proofs.Playing.{plays-none, played-next}
 use Rattle.dq_wires.proofs.looping.Loopback.play_all.Goals as goal
 
@@ -7,7 +7,7 @@ pub loop-event-init : goal.loop-event-init
 loop-event-init g c = record {
   parts = search rules;
   plays = plays-none _ _ c.requires.working;
-  opened = ap (map line_number) c.requires.empty;
+  opened = ap (map capture_number) c.requires.empty;
 }
 
 pub play-requires : goal.play-requires

@@ -1,0 +1,100 @@
+-- Services that go on.
+use Rattle.std.proofs.Common.{◌≡◌, ℕ, List, [], ◌++◌, length, ◌∙◌, Option}
+use Rattle.std.proofs.lemmas.List.{append-nil}
+use Rattle.std.specs.List.{flat_map}
+use Rattle.dq_config.specs.declared.config.Institution.{Institution}
+use Rattle.dq_core.specs.Shared.{replies}
+use Rattle.dq_core.specs.declared.event.Event.{Event}
+use Rattle.dq_core.specs.ServerView.{ServerView}
+use Rattle.dq_tables.specs.declared.row.Row.{Row}
+use Rattle.dq_tables.specs.Keeping.{State}
+use Rattle.dq_wires.specs.declared.calls.Call.{Call}
+use Rattle.dq_wires.specs.Looping.{ArePlayed}
+use Rattle.dq_wires.specs.Logs.{LogsAll}
+use Rattle.dq_wires.specs.Servings.{Act, act_calls, Serving, nothing_held, served_steps, served_events}
+use Rattle.dq_wires.specs.Servings.{Served as ServedOver}
+use Rattle.dq_wires.specs.Steps.{replies_of}
+use Rattle.dq_wires.specs.Turns.{Cut, cut_calls}
+use Rattle.dq_wires.specs.Turns.Cut.{NoRoom}
+use Rattle.dq_wires.specs.Turns.{Hold}
+use Rattle.dq_wires.specs.Turners.{TurnerView}
+use Rattle.dq_app.specs.declared.stop.Stop.{Stop}
+use Rattle.dq_app.specs.Looping.{ArePlayedOver}
+use Rattle.dq_app.specs.Rounds.{RoundsCut}
+use Rattle.dq_console.specs.ServiceProgress.{WentOn}
+use Rattle.dq_console.proofs.ServiceProgress.{WholeServes, RowsServe}
+use Rattle.dq_app.specs.Serving.{Round, rounds_acts, Halt, HasConsole, HasConsoleTo, IsUncalled, AreServed, Served, ServedUpTo}
+
+-- what has gone on from a beginning is a service
+module _ {Tables : Type 0} (state : Tables → State) (rows : List Row) where
+  abbrev pub AreReplied : Type 0
+  AreReplied = (rows : List Row) (first last : ServerView Tables) (acts : List Act) (cut : Cut) → ServedOver state rows first last acts cut
+      → (state last.tables).honest → replies_of (served_steps acts cut) ≡ replies first.institutions rows (served_events acts cut)
+
+  served-to : {Wired : Type 0} (log : Wired → Option (List Call)) (wires left : Wired) {first last : ServerView Tables} {acts : List Act} {cut : Cut}
+      {institutions : List Institution} → AreReplied → ServedOver state rows first last acts cut
+      → LogsAll (log wires) (log left) (flat_map act_calls acts ++ cut_calls cut) → (state last.tables).honest → first.institutions ≡ institutions
+      → IsUncalled (log wires) → AreServed log institutions rows acts cut
+  served-to log wires left {first} {last} {acts} {cut} replied served calls honest same uncalled = record {
+    wires = wires;
+    left = left;
+    uncalled = uncalled;
+    are = served.are;
+    fits = served.fits;
+    calls = calls;
+    answered = rw same at (replied rows first last acts cut served honest);
+  }
+
+  -- the acts of a serving are served
+  pub served-by : {Wired : Type 0} (log : Wired → Option (List Call)) (wires left : Wired) {first last : ServerView Tables} {hold : Hold} {acts : List Act}
+      {institutions : List Institution} → WholeServes state → AreReplied → Serving state rows (log wires) (log left) first last hold acts
+      → (state last.tables).honest → first.institutions ≡ institutions → IsUncalled (log wires) → AreServed log institutions rows acts NoRoom
+  served-by log wires left {first} {last} {hold} {acts} whole replied service honest same uncalled =
+      served-to log wires left replied (whole rows (log wires) (log left) first last hold acts service) (rw append-nil service.calls) honest same uncalled
+
+  pub service-of : {Wired Console : Type 0} (log : Wired → Option (List Call)) (console_log : Console → Option (List Call)) (wires left : Wired) {old new : TurnerView Tables} {count made : ℕ} (console : Option (List ℕ))
+      (institutions : List Institution) (rounds : List Round) → WholeServes state → AreReplied → RowsServe state
+      → Serving state rows (log wires) (log wires) old.server old.server old.hold [] → (state new.server.tables).honest
+      → old.server.institutions ≡ institutions → made ≡ count → IsUncalled (log wires) → length rounds ≡ made → HasConsole console_log institutions rows console rounds
+      → WentOn state (log wires) (log left) old new (rounds_acts rounds) → Served log console_log institutions rows count console (state new.server.tables).rows
+  service-of log console_log wires left {old} {new} console institutions rounds whole replied kept begun honest same number uncalled counted consoled went =
+      let acts = rounds_acts rounds in
+      let service = went.serves rows (log wires) old.server [] begun in
+      record {
+        rounds = rounds;
+        counted = counted ∙ number;
+        served = served-by log wires left whole replied service honest same uncalled;
+        consoled = consoled;
+        leaves = rw same at
+            (kept rows old.server new.server acts NoRoom (whole rows (log wires) (log left) old.server new.server new.hold acts service) honest);
+      }
+
+  -- one that was cut off
+  pub service-cut : {Wired Console : Type 0} (log : Wired → Option (List Call)) (console_log : Console → Option (List Call)) (wires left : Wired) {breaks : Type 0} {old : TurnerView Tables} {new : ServerView Tables}
+      {count made : ℕ} {AreSo : List Round → Halt → Type 0} {cause : Stop} (console : Option (List ℕ)) (institutions : List Institution) → AreReplied
+      → Serving state rows (log wires) (log wires) old.server old.server old.hold [] → ((tables : Tables) → (state tables).honest)
+      → old.server.institutions ≡ institutions → made ≡ count → IsUncalled (log wires)
+      → (off : RoundsCut state breaks (log wires) (log left) old new made AreSo cause) → HasConsoleTo console_log institutions rows console off.rounds off.halt
+      → ServedUpTo log console_log breaks institutions rows count console cause
+  service-cut log console_log wires left {old = old} console institutions replied begun honest same number uncalled off consoled =
+      let cut = off.off rows (log wires) old.server [] begun in
+      record {
+        rounds = off.rounds;
+        most = rw number at off.most;
+        halt = off.halt;
+        causes = off.causes;
+        served = served-to log wires left replied cut.served cut.calls (honest cut.last.tables) same uncalled;
+        consoled = consoled;
+      }
+
+-- the events of a capture were played
+module _ {Tables : Type 0} (state : Tables → State) where
+  pub played-by : {Wired : Type 0} (log : Wired → Option (List Call)) (wires : Wired) {first : ServerView Tables} {institutions : List Institution}
+      {events : List Event} → WholeServes state → AreReplied state [] → ((tables : Tables) → (state tables).honest) → first.institutions ≡ institutions
+      → IsUncalled (log wires) → ((acts : List Act) × (left : Wired) × (last : ServerView Tables) × (hold : Hold) × ArePlayed [] nothing_held events acts
+      × Serving state [] (log wires) (log left) first last hold acts) → ArePlayedOver log institutions events
+  played-by log wires whole replied honest same uncalled (acts, left, last, hold, played, service) = record {
+    acts = acts;
+    played = played;
+    served = served-by state [] log wires left whole replied service (honest last.tables) same uncalled;
+  }

@@ -1,0 +1,12 @@
+use Rattle.dq_app.proofs.Inputs.{if_error}
+use Rattle.dq_app.proofs.Cutting.{cuts-given}
+use Rattle.dq_app.proofs.replay_output.answer.Goals as goal
+
+pub returns-in_err-print_all-clause-cut : goal.returns-in_err-print_all-clause-cut
+returns-in_err-print_all-clause-cut g c = λ honest.
+    if_error _ c.from_residual-in_err-print_all.result _ c.from_residual-in_err-print_all.ensures.1
+    (cuts-given _ _ _ _ _ _ _ _ (c.in_ok-outcome.ensures.given honest) (rw c.as_slice.ensures at c.in_err-print_all.ensures.cut))
+
+pub returns-clause-done : goal.returns-clause-done
+returns-clause-done g c = λ honest.
+    rw (← (c.in_ok-outcome.ensures.given honest).whole c.in_ok-print_all.ensures.unfaulted) (rw c.as_slice.ensures at c.in_ok-print_all.ensures.done)

@@ -1,0 +1,11 @@
+pub mod Checks
+pub mod Copies
+pub mod Commands
+pub mod Exports
+pub mod HttpAnswers
+pub mod Looping
+pub mod Places
+pub mod Program
+pub mod Replays
+pub mod Rounds
+pub mod Serving

@@ -1,0 +1,392 @@
+//! Where connections come in.
+ghost use Rattle.std.specs.Prelude.{◌≡◌, ℕ, List, [], Option, option_map, IfOk, IfSome, IsErrOf, OnErr};
+ghost use Rattle.std.specs.Option.{option_copied};
+ghost use Rattle.dq_cli.specs.CommandLine.{WebFront, web_front_in};
+ghost use Rattle.dq_web.specs.KeyFiles.{AreSpelled};
+ghost use Rattle.dq_wires.specs.declared.given_up.Limits.{Limits};
+ghost use Rattle.dq_app.specs.Serving.{limit_of};
+
+use crate::server_sockets::{AssociationSockets, ConsoleSockets, Counted, HttpSockets};
+use dq_captures::{Folder, Host, Unread};
+use dq_cli::{VERSION, Web};
+use dq_config::Institution;
+use dq_console::Asks;
+use dq_http::{HttpServer, HttpState};
+use dq_list::Listed;
+use dq_tables::Tables;
+use dq_web::{Guard, Keys, KeysFault};
+use dq_wires::{AssociationLog, Called, Limits, LogEnd, LoggedWires, SocketWires, Turner, Wires};
+use std::alloc::{AllocError, Global};
+use std::io;
+use std::net::{IpAddr, SocketAddr};
+use std::time::Duration;
+
+/// A client of the console or of the web front that says nothing for so many seconds is let go.
+const CLIENT_QUIET: u64 = 60;
+
+/// The reason why no connection can come in.
+#[derive(Clone, Copy, Debug, PartialEq, Eq)]
+pub enum ListenError {
+    /// The address is none, or the port or the path cannot be had, or the log's file.
+    Failed,
+    /// A line of the keys of the web front is bad. 0 stands for a file that cannot be read, is no text,
+    /// or has no key.
+    Keys(u64),
+    NoMemory,
+}
+
+impl From<AllocError> for ListenError {
+    ghost use Rattle.std.specs.Prelude.{◌≡◌};
+    ghost use Rattle.dq_app.specs.declared.network.ListenError.TheVariants.{NoMemory};
+
+    ghost from_gives = { λ _ listen_error. listen_error ≡ NoMemory };
+
+    fn from(_error: AllocError) -> ListenError {
+        ListenError::NoMemory
+    }
+}
+
+/// The log of connections: its file, unless it is standard error.
+#[derive(Clone, Copy)]
+pub struct Logging<'a> {
+    pub file: Option<&'a str>,
+}
+
+/// Where connections come in, when they are given up, and their log, if there is one.
+#[derive(Clone, Copy)]
+pub struct Listening<'a> {
+    pub address: &'a str,
+    pub port: u16,
+    pub limits: Limits,
+    pub log: Option<Logging<'a>>,
+}
+
+impl From<KeysFault> for ListenError {
+    ghost from_gives = { λ _ _. Unit {0} };
+
+    fn from(fault: KeysFault) -> ListenError {
+        match fault {
+            KeysFault::Line(line) => ListenError::Keys(line),
+            KeysFault::NoMemory => ListenError::NoMemory,
+        }
+    }
+}
+
+/// Where clients come in that are no associations: at the path of the console, and by the web front, as
+/// far as they are there.
+#[derive(Clone, Copy)]
+pub struct Entrance<'a> {
+    pub console: Option<&'a str>,
+    pub web: Option<Web<'a>>,
+}
+
+/// What listens for connections.
+pub trait Network {
+    /// The wires over which they come.
+    type Wired: Called<Self> + Drop;
+
+    /// Those over which clients of the console come.
+    type Console: Wires + Drop;
+
+    /// The web front.
+    type Http: Asks + Drop;
+
+    /// It may be that nobody can be listened for, or waited for.
+    ghost may_break: { Self → Type 0 };
+
+    /// Wires on which connections come in at an address and a port, and are given up by these limits.
+    ghost listens: { Self.Wired → List ℕ → ℕ → Limits → Type 0 };
+
+    /// Clients come in at the path of a console, and requests by a web front, as far as they are there.
+    ghost admits: { Self.Console → Self.Http → Option (List ℕ) → Option WebFront → Type 0 };
+
+    /// Listens at a port of an address. The wires were not called.
+    fn listen(&self, alloc: Global, listening: Listening<'_>) -> Result<Self::Wired, ListenError>
+        ensures uncalled { IfOk result (λ wires.
+            IfSome (Self.Wired.log wires) (λ calls. calls ≡ [])) }
+        ensures listens { IfOk result (λ wires. listens wires listening.entry.address.now
+            listening.entry.port listening.entry.limits) }
+        ensures failed { IsErrOf result ListenError.Failed → may_break self.now };
+
+    /// Listens for clients and for requests of a web front, beside other wires: who rests over all is woken
+    /// by each. The web front is one of these institutions. The new wires were not called.
+    fn listen_beside(
+        &self,
+        alloc: Global,
+        entrance: Entrance<'_>,
+        institutions: &[Institution],
+        wires: &mut Self::Wired,
+    ) -> Result<(Self::Console, Self::Http), ListenError>
+        ensures beside { IfOk result (λ clients.
+            IfSome (Self.Console.log clients.0) (λ calls. calls ≡ [])) }
+        ensures admits { IfOk result (λ clients. admits clients.0 clients.1
+            (option_copied entrance.entry.console) (option_map web_front_in entrance.entry.web)) }
+        ensures same { Self.Wired.log wires.new ≡ Self.Wired.log wires.old }
+        ensures failed { IsErrOf result ListenError.Failed → may_break self.now };
+
+    /// Waits until something may be done over the wires, so long at most.
+    fn rest(&self, wires: &mut Self::Wired, most: Duration) -> io::Result<()>
+        ensures same { Self.Wired.log wires.new ≡ Self.Wired.log wires.old }
+        ensures failed { OnErr result (may_break self.now) };
+
+    /// Waits until something may be done over the wires, over those of the console or by the web front, which
+    /// has its turn.
+    fn rest_with(
+        &self,
+        wires: &mut Self::Wired,
+        console: &mut Self::Console,
+        front: &mut Self::Http,
+        most: Duration,
+    ) -> io::Result<()>
+        ensures same { Self.Wired.log wires.new ≡ Self.Wired.log wires.old }
+        ensures console { Self.Console.log console.new ≡ Self.Console.log console.old }
+        ensures failed { OnErr result (may_break self.now) };
+
+    /// Tells in the log of the wires, if they have one, what was served since this was last asked.
+    fn tell<T: Tables>(&self, wires: &mut Self::Wired, turner: &mut Turner<T>)
+        ensures log { Self.Wired.log wires.new ≡ Self.Wired.log wires.old }
+        ensures turner { turner.new ≡ turner.old };
+
+    /// Tells notes of the console there, a line each.
+    fn note(&self, wires: &mut Self::Wired, notes: &str)
+        ensures { Self.Wired.log wires.new ≡ Self.Wired.log wires.old };
+
+    /// Tells there that the server stops: by a fault of a number, or for want of connections.
+    fn note_stop(&self, wires: &mut Self::Wired, fault: Option<u8>)
+        ensures { Self.Wired.log wires.new ≡ Self.Wired.log wires.old };
+}
+
+// Why no connections come in, by the error of what listens.
+fn listen_error_of(error: &io::Error) -> ListenError {
+    match error.kind() {
+        io::ErrorKind::OutOfMemory => ListenError::NoMemory,
+        _ => ListenError::Failed,
+    }
+}
+
+fn sockets_at(
+    alloc: Global,
+    rt: &HostRuntime,
+    address: IpAddr,
+    port: u16,
+) -> Result<SocketWires, ListenError> {
+    match SocketWires::listen(alloc, rt, SocketAddr::new(address, port)) {
+        Ok(wires) => Ok(wires),
+        Err(error) => Err(listen_error_of(&error)),
+    }
+}
+
+// Where the lines of a log go.
+fn log_end(alloc: Global, rt: &HostRuntime, file: Option<&str>) -> io::Result<LogEnd> {
+    match file {
+        Some(path) => LogEnd::file(alloc, rt, path),
+        None => LogEnd::errors(alloc, rt),
+    }
+}
+
+fn log_of(
+    alloc: Global,
+    rt: &HostRuntime,
+    logging: Logging<'_>,
+) -> Result<AssociationLog<LogEnd>, ListenError> {
+    match log_end(alloc, rt, logging.file) {
+        Ok(end) => {
+            let mut log = AssociationLog::new(alloc, end);
+            log.read_clock(rt);
+            log.start(VERSION);
+            Ok(log)
+        }
+        Err(error) => Err(listen_error_of(&error)),
+    }
+}
+
+/// A count, where it is limited: 0 is no limit.
+pub(crate) fn limit_of(count: u32) -> Option<u32>
+    ensures { result ≡ limit_of count }
+{
+    if count > 0 { Some(count) } else { None }
+}
+
+/// How many connections of an address there may be.
+pub(crate) fn connections_of(count: u32) -> Option<usize>
+    ensures { result ≡ limit_of count }
+{
+    let count = limit_of(count)?;
+    Some(count as usize)
+}
+
+// Has those who say nothing let go, and at once those of whose address there are as many as may be.
+fn limit_clients(wires: &mut SocketWires, peer_connections: Option<usize>) {
+    wires.set_limits(Limits {
+        artim: None,
+        quiet: Some(Duration::from_secs(CLIENT_QUIET)),
+        peer_connections,
+    });
+}
+
+// The sockets of the console.
+fn console_at(alloc: Global, rt: &HostRuntime, path: &str) -> Result<SocketWires, ListenError> {
+    match SocketWires::listen_at(alloc, rt, path) {
+        Ok(mut wires) => {
+            limit_clients(&mut wires, None);
+            Ok(wires)
+        }
+        Err(error) => Err(listen_error_of(&error)),
+    }
+}
+
+/// The keys of a file.
+fn keys_of<F: Folder>(alloc: Global, folder: &F, path: &str) -> Result<Keys, ListenError>
+    ensures { IfOk result (λ keys. IfSome (F.held folder.now path.now) (λ octets.
+        AreSpelled octets keys.entries)) }
+{
+    let octets = match folder.read_file(alloc, path) {
+        Ok(octets) => octets,
+        Err(Unread::NoMemory) => return Err(ListenError::NoMemory),
+        Err(Unread::Failed) => return Err(ListenError::Keys(0)),
+    };
+    let Ok(text) = str::from_utf8(octets.as_slice()) else {
+        return Err(ListenError::Keys(0));
+    };
+    match Keys::read(alloc, text) {
+        Ok(keys) => Ok(keys),
+        Err(fault) => Err(ListenError::from(fault)),
+    }
+}
+
+/// The guard of a web front: the keys of its file, and its host.
+fn guard_of<F: Folder>(alloc: Global, folder: &F, web: Web<'_>) -> Result<Guard, ListenError>
+    ensures keys { IfOk result (λ guard. IfSome (F.held folder.now web.entry.keys.now) (λ octets.
+        AreSpelled octets guard.keys.entries)) }
+    ensures host { IfOk result (λ guard. guard.host ≡ option_copied web.entry.host) }
+{
+    let keys = keys_of(alloc, folder, web.keys)?;
+    let host = match web.host {
+        Some(host) => Some(Listed::copy_of(alloc, host.as_bytes())?),
+        None => None,
+    };
+    Ok(Guard { keys, host })
+}
+
+// The web front of institutions.
+fn front_at<H: Host>(
+    alloc: Global,
+    host: &H,
+    web: Web<'_>,
+    institutions: &[Institution],
+) -> Result<HttpServer<SocketWires>, ListenError> {
+    let state = HttpState::new(alloc, guard_of(alloc, host, web)?, institutions)?;
+    let rt = host.runtime();
+    let Ok(address) = web.address.parse::<IpAddr>() else {
+        return Err(ListenError::Failed);
+    };
+    let mut wires = sockets_at(alloc, rt, address, web.port)?;
+    limit_clients(&mut wires, connections_of(web.peer_connections));
+    Ok(HttpServer::new(rt, wires, state)?)
+}
+
+// Has a rest over sockets end where something may be done on others.
+fn watch(sockets: &mut AssociationSockets, others: &SocketWires) -> Result<(), ListenError> {
+    match sockets.logged.wires.watch(others) {
+        Ok(()) => Ok(()),
+        Err(error) => Err(listen_error_of(&error)),
+    }
+}
+
+impl<H: Host> Network for H {
+    type Wired = AssociationSockets;
+
+    type Console = ConsoleSockets;
+
+    type Http = HttpSockets;
+
+    ghost may_break = { λ _. Unit {0} };
+
+    ghost listens = { λ _ _ _ _. Unit {0} };
+
+    ghost admits = { λ _ _ _ _. Unit {0} };
+
+    fn listen(&self, alloc: Global, listening: Listening<'_>) -> Result<Self::Wired, ListenError> {
+        let Ok(address) = listening.address.parse::<IpAddr>() else {
+            return Err(ListenError::Failed);
+        };
+        let mut wires = sockets_at(alloc, self.runtime(), address, listening.port)?;
+        wires.set_limits(listening.limits);
+        let log = match listening.log {
+            Some(logging) => Some(log_of(alloc, self.runtime(), logging)?),
+            None => None,
+        };
+        Ok(AssociationSockets {
+            logged: LoggedWires { wires, log },
+            counted: None,
+        })
+    }
+
+    fn listen_beside(
+        &self,
+        alloc: Global,
+        entrance: Entrance<'_>,
+        institutions: &[Institution],
+        wires: &mut Self::Wired,
+    ) -> Result<(Self::Console, Self::Http), ListenError> {
+        let console = match entrance.console {
+            Some(path) => Some(console_at(alloc, self.runtime(), path)?),
+            None => None,
+        };
+        if let Some(console) = &console {
+            watch(wires, console)?;
+        }
+        let front = match entrance.web {
+            Some(web) => Some(front_at(alloc, self, web, institutions)?),
+            None => None,
+        };
+        if let Some(front) = &front {
+            watch(wires, &front.wires)?;
+            wires.counted = Some(Counted::new(alloc));
+        }
+        Ok((ConsoleSockets { wires: console }, HttpSockets { front }))
+    }
+
+    fn rest(&self, wires: &mut Self::Wired, most: Duration) -> io::Result<()> {
+        let rested = wires.logged.wires.rest(self.runtime(), most);
+        wires.logged.read_clock(self.runtime());
+        rested
+    }
+
+    fn rest_with(
+        &self,
+        wires: &mut Self::Wired,
+        console: &mut Self::Console,
+        front: &mut Self::Http,
+        most: Duration,
+    ) -> io::Result<()> {
+        front.attend(wires, self.runtime());
+        let is_busy = console.is_busy() || front.is_busy();
+        let most = if is_busy { Duration::ZERO } else { most };
+        console.begin_turn();
+        front.begin_turn();
+        let rested = wires.logged.wires.rest_beside(self.runtime(), most);
+        wires.logged.read_clock(self.runtime());
+        let is_called = rested?;
+        console.look(self.runtime(), is_called)?;
+        front.look(self.runtime(), is_called)?;
+        front.attend(wires, self.runtime());
+        Ok(())
+    }
+
+    fn tell<T: Tables>(&self, wires: &mut Self::Wired, turner: &mut Turner<T>) {
+        wires.tell(turner, self.runtime());
+    }
+
+    fn note(&self, wires: &mut Self::Wired, notes: &str) {
+        if let Some(log) = &mut wires.logged.log {
+            log.note(notes);
+        }
+    }
+
+    fn note_stop(&self, wires: &mut Self::Wired, fault: Option<u8>) {
+        if let Some(log) = &mut wires.logged.log {
+            log.stop(fault);
+        }
+    }
+}

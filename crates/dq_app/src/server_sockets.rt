@@ -1,0 +1,317 @@
+//! The sockets of the program: those of associations, with their log, those of the console, and the web front.
+ghost use Rattle.std.specs.Prelude.{◌≡◌, ◌≤◌, length, option_copied, IfOk};
+ghost use Rattle.dq_wires.specs.Logs.{IfGot, failures_after_accept};
+
+use dq_assoc::Service;
+use dq_captures::Host;
+use dq_console::Asks;
+use dq_core::{LogEvent, Note, Notes};
+use dq_http::HttpServer;
+use dq_request::{Request, Response};
+use dq_tables::Tables;
+use dq_web::{Counters, Service as CountedService};
+use dq_wires::{
+    Called, LogEnd, LoggedWires, ReadTurn, SocketClient, SocketWires, Turner, WireFault, Wires,
+};
+use std::alloc::Global;
+use std::time::{Duration, Instant};
+use std::{fs, io};
+
+/// The octets of a page of memory.
+const PAGE_OCTETS: u64 = 4096;
+
+/// Sockets whose connections are told of in a log, if there is one, and counted, if that is asked.
+#[derive(Drop)]
+pub struct AssociationSockets {
+    pub logged: LoggedWires<SocketWires, LogEnd>,
+    pub counted: Option<Counted>,
+}
+
+/// The sockets of the console, if there is one.
+#[derive(Drop)]
+pub struct ConsoleSockets {
+    pub wires: Option<SocketWires>,
+}
+
+/// The web front, if there is one.
+#[derive(Drop)]
+pub struct HttpSockets {
+    pub front: Option<HttpServer<SocketWires>>,
+}
+
+/// Counts of what was served, the numbers of the connections with an association, and when the turn
+/// began.
+#[derive(Drop)]
+pub struct Counted {
+    pub counters: Counters,
+    open: Vec<u64>,
+    begun: Option<Instant>,
+}
+
+/// The octets of memory that the program has, as the system tells; 0 where it does not.
+fn resident_octets(rt: &HostRuntime) -> u64 {
+    let Ok(text) = fs::read_to_string(rt, "/proc/self/statm") else {
+        return 0;
+    };
+    let pages = match text.split_whitespace().nth(1) {
+        Some(word) => word.parse::<u64>().unwrap_or(0),
+        None => 0,
+    };
+    pages.saturating_mul(PAGE_OCTETS)
+}
+
+/// What a service counts as.
+fn counted_as(service: Service) -> CountedService {
+    match service {
+        Service::Verification => CountedService::Echo,
+        Service::Storage => CountedService::Store,
+        Service::StudyRootFind => CountedService::Find,
+        Service::WorklistFind => CountedService::Worklist,
+        Service::PerformedProcedureStep => CountedService::Step,
+    }
+}
+
+impl Counted {
+    /// Counts of which nothing was served yet.
+    pub fn new(alloc: Global) -> Self {
+        Counted {
+            counters: Counters::default(),
+            open: Vec::new(alloc),
+            begun: None,
+        }
+    }
+
+    // Takes a connection from those with an association. The answer is whether it was one.
+    fn close(&mut self, number: u64) -> bool {
+        match self.open.iter().position(|it| *it == number) {
+            Some(at) => {
+                let _ = self.open.swap_remove(at);
+                true
+            }
+            None => false,
+        }
+    }
+
+    fn count(&mut self, note: &Note) {
+        match &note.noted {
+            LogEvent::Accepted { .. } => {
+                if self.open.push(note.number).is_ok() {
+                    self.counters.accept();
+                }
+            }
+            LogEvent::Rejected { .. } => self.counters.reject(),
+            LogEvent::Aborted { .. } if self.close(note.number) => self.counters.abort(),
+            LogEvent::Released if self.close(note.number) => self.counters.release(),
+            LogEvent::Ended if self.close(note.number) => self.counters.lose(),
+            LogEvent::Aborted { .. } | LogEvent::Released | LogEvent::Ended => {}
+            LogEvent::Served {
+                service,
+                status,
+                ..
+            } => self.counters.serve(counted_as(*service), *status),
+        }
+    }
+
+    // Counts what a turn served, and how long it took where it served something.
+    fn count_turn(&mut self, notes: &Notes, clock: &HostRuntime) {
+        for note in notes.list.as_slice() {
+            self.count(note);
+        }
+        let now = Instant::now(clock).ok();
+        match (self.begun.take(), now) {
+            (Some(begun), Some(now)) if !notes.list.is_empty() => {
+                let passed = now.duration_since(begun).as_micros();
+                self.counters
+                    .turn(u64::try_from(passed).unwrap_or(u64::MAX));
+            }
+            (Some(_), _) => {}
+            (None, now) => self.begun = now,
+        }
+    }
+}
+
+impl AssociationSockets {
+    /// Tells the log what was served since this was last asked, and counts it.
+    pub fn tell<T: Tables>(&mut self, turner: &mut Turner<T>, clock: &HostRuntime)
+        ensures { turner.new ≡ turner.old }
+    {
+        if self.logged.log.is_none() && self.counted.is_none() {
+            return;
+        }
+        let notes = turner.take_notes();
+        if let Some(counted) = &mut self.counted {
+            counted.count_turn(&notes, clock);
+        }
+        if let Some(log) = &mut self.logged.log {
+            log.tell(&notes, clock);
+        }
+    }
+}
+
+impl Wires for AssociationSockets {
+    ghost use Rattle.std.specs.Prelude.{None};
+
+    ghost log = { λ _. None };
+
+    ghost failed_accepts = { λ sockets. ⟦<SocketWires as Wires>⟧.failed_accepts sockets.logged.wires };
+
+    fn accept(&mut self) -> Result<Option<usize>, WireFault> {
+        self.logged.accept()
+    }
+
+    fn read(&mut self, place: usize, buffer: &mut [u8]) -> Result<ReadTurn, WireFault> {
+        self.logged.read(place, buffer)
+    }
+
+    fn write(&mut self, place: usize, octets: &[u8]) -> Result<usize, WireFault> {
+        self.logged.write(place, octets)
+    }
+
+    fn shut(&mut self, place: usize) -> Result<(), WireFault> {
+        self.logged.shut(place)
+    }
+}
+
+impl<H: Host> Called<H> for AssociationSockets {
+    fn connect(&self, machine: &H) -> Result<SocketClient, WireFault> {
+        match self.logged.wires.address() {
+            Ok(address) => SocketClient::connect(machine.runtime(), address).or(Err(WireFault)),
+            Err(_) => Err(WireFault),
+        }
+    }
+
+    fn look(&mut self, machine: &H) -> Result<(), WireFault> {
+        let looked = self.logged.wires.rest(machine.runtime(), Duration::ZERO);
+        looked.or(Err(WireFault))
+    }
+}
+
+impl ConsoleSockets {
+    /// Whether calls did something in this turn.
+    pub fn is_busy(&self) -> bool {
+        match &self.wires {
+            Some(wires) => wires.is_busy(),
+            None => false,
+        }
+    }
+
+    /// Begins a turn: nothing was done in it yet.
+    pub fn begin_turn(&mut self) {
+        if let Some(wires) = &mut self.wires {
+            wires.begin_turn();
+        }
+    }
+
+    /// Looks what may be done, after the sockets beside these rested.
+    pub fn look(&mut self, clock: &HostRuntime, is_called: bool) -> io::Result<()> {
+        match &mut self.wires {
+            Some(wires) => wires.look_beside(clock, is_called),
+            None => Ok(()),
+        }
+    }
+}
+
+impl Wires for ConsoleSockets {
+    ghost use Rattle.std.specs.Prelude.{None, option_map, unwrap_or};
+
+    ghost log = { λ _. None };
+
+    ghost failed_accepts = { λ sockets.
+        unwrap_or (option_map (⟦<SocketWires as Wires>⟧.failed_accepts) sockets.wires) 0 };
+
+    fn accept(&mut self) -> Result<Option<usize>, WireFault> {
+        match &mut self.wires {
+            Some(wires) => wires.accept(),
+            None => Ok(None),
+        }
+    }
+
+    fn read(&mut self, place: usize, buffer: &mut [u8]) -> Result<ReadTurn, WireFault> {
+        match &mut self.wires {
+            Some(wires) => wires.read(place, buffer),
+            None => Err(WireFault),
+        }
+    }
+
+    fn write(&mut self, place: usize, octets: &[u8]) -> Result<usize, WireFault> {
+        match &mut self.wires {
+            Some(wires) => wires.write(place, octets),
+            None => Err(WireFault),
+        }
+    }
+
+    fn shut(&mut self, place: usize) -> Result<(), WireFault> {
+        match &mut self.wires {
+            Some(wires) => wires.shut(place),
+            None => Err(WireFault),
+        }
+    }
+}
+
+impl HttpSockets {
+    /// The turn of the web front. A request for metrics is answered by the counts of what was served.
+    /// The notes go to the log.
+    pub fn attend(&mut self, beside: &mut AssociationSockets, rt: &HostRuntime) {
+        let Some(front) = &mut self.front else {
+            return;
+        };
+        front.attend();
+        if let Some(counted) = &beside.counted {
+            if front.wants_counts() {
+                let mut counters = counted.counters;
+                counters.memory = resident_octets(rt);
+                front.set_counters(counters);
+            }
+        }
+        let notes = front.take_notes();
+        if let Some(log) = &mut beside.logged.log {
+            log.note_web(notes.as_str());
+        }
+    }
+
+    /// Whether there is something to do that no octet has to come for, or was in this turn.
+    pub fn is_busy(&self) -> bool {
+        match &self.front {
+            Some(front) => front.is_busy() || front.wires.is_busy(),
+            None => false,
+        }
+    }
+
+    /// Begins a turn: nothing was done in it yet.
+    pub fn begin_turn(&mut self) {
+        if let Some(front) = &mut self.front {
+            front.wires.begin_turn();
+        }
+    }
+
+    /// Looks what may be done, after the sockets beside these rested.
+    pub fn look(&mut self, clock: &HostRuntime, is_called: bool) -> io::Result<()> {
+        match &mut self.front {
+            Some(front) => front.wires.look_beside(clock, is_called),
+            None => Ok(()),
+        }
+    }
+}
+
+impl Asks for HttpSockets {
+    ghost use Rattle.std.specs.Option.{option_and_then};
+    ghost use Rattle.dq_http.specs.RequestQueue.{next_of};
+    ghost use Rattle.dq_app.specs.HttpAnswers.{IsAnswered};
+
+    ghost waiting = { λ sockets. option_and_then next_of sockets.front };
+
+    ghost answers = { λ old new response. IsAnswered old.front new.front response };
+
+    fn next(&self) -> Option<&Request> {
+        match &self.front {
+            Some(front) => front.next(),
+            None => None,
+        }
+    }
+
+    fn answer(&mut self, response: &Response) {
+        if let Some(front) = &mut self.front {
+            front.answer(response);
+        }
+    }
+}

@@ -1,0 +1,294 @@
+-- What is asked of the console, as parts of a service that goes on.
+use Rattle.std.proofs.Common.{◌≡◌, ℕ, List, [], ◌∷◌, ◌++◌, inl, inr, refl, subst, ◌∙◌, ap₂, append_assoc, Option, Some, None, Bool, string_bytes}
+use Rattle.std.proofs.lemmas.List.{append-nil}
+use Rattle.std.specs.List.{flat_map}
+use Rattle.dq_config.specs.declared.config.Institution.{Institution}
+use Rattle.dq_core.specs.Shared.{world_after}
+use Rattle.dq_core.specs.declared.event.Event.{Event}
+use Rattle.dq_core.specs.declared.event.Event.TheVariants as event
+use Rattle.dq_core.specs.declared.event.Reply.{Reply}
+use Rattle.dq_core.specs.Looking.{Looked}
+use Rattle.dq_core.specs.ServerView.{ServerView}
+use Rattle.dq_tables.specs.declared.row.Row.{Row}
+use Rattle.dq_tables.specs.Keeping.{State}
+use Rattle.dq_wires.specs.declared.calls.Call.{Call}
+use Rattle.dq_wires.specs.declared.fault.TurnFault.{TurnFault}
+use Rattle.dq_wires.specs.Serving.{Serves}
+use Rattle.dq_wires.specs.Servings.{Act, act_steps, Serving, all_turned, served_events}
+use Rattle.dq_wires.specs.Servings.{Served as ServedOver}
+use Rattle.dq_wires.specs.Steps.{Step, Runs}
+use Rattle.dq_wires.specs.Turns.Cut.{NoRoom}
+use Rattle.dq_wires.specs.Turns.{Cut, Hold, TurnsWent, TurnsCut}
+use Rattle.dq_wires.specs.Servings.Act.{Ordered}
+use Rattle.dq_wires.specs.ServerSteps.{Stepped, Moves, Fails}
+use Rattle.dq_wires.specs.Turners.{TurnerView, IsOrder}
+use Rattle.dq_request.specs.declared.request.Request.{Request}
+use Rattle.dq_request.specs.declared.request.Request.TheVariants as request
+use Rattle.dq_request.specs.declared.response.Response.{Response}
+use Rattle.dq_console.specs.declared.console_line.ConsoleLine.{ConsoleLine}
+use Rattle.dq_console.specs.declared.console_line.ConsoleLine.TheVariants as line
+use Rattle.dq_console.specs.Console.{HeldClient, client_with_answer, rows_after, Answering, OrdersOnce, IsAnswer, TellsOf, IsUnanswered, IsLineUnanswered}
+use Rattle.dq_console.specs.Console.LineAnswer.{Obeyed, Refused, Unread}
+use Rattle.dq_console.specs.RequestNotes.{is_bad}
+use Rattle.dq_console.specs.ServiceProgress.{AreHonest, WentOn, Attended, Holds, HoldsAt}
+use Rattle.dq_console.specs.ClientTurns.{Does, Halted, HaltedBy, Responds, RespondedBy, LineAnswered, LineUnanswered}
+use Rattle.dq_console.specs.ConsoleLines.{SpellsRequest, TellsLine}
+use Rattle.dq_console.specs.Requests.{Orders, Answered, order_in, LooksInPart, OrdersInPart, Unanswered}
+
+module _ {Tables : Type 0} (state : Tables → State) where
+  -- the laws of servings that are used
+  abbrev pub TurnsServe : Type 0
+  TurnsServe = (rows : List Row) (before now after : Option (List Call)) (first mid next : ServerView Tables) (hold to : Hold) (acts : List Act) (count : ℕ)
+      → Serving state rows before now first mid hold acts → (went : TurnsWent (Moves state) now after mid next hold to count)
+      → Serving state rows before after first next to (acts ++ all_turned went.turns)
+
+  abbrev pub OrdersServe : Type 0
+  OrdersServe = (rows : List Row) (before now : Option (List Call)) (first mid next : ServerView Tables) (hold : Hold) (acts : List Act) (event : Event)
+      (reply : Reply) → Serving state rows before now first mid hold acts → IsOrder event → Stepped state mid next event reply
+      → Serving state rows before now first next hold (acts ++ Ordered event reply ∷ [])
+
+  abbrev pub LooksServe : Type 0
+  LooksServe = (rows : List Row) (before now : Option (List Call)) (first mid next : ServerView Tables) (hold : Hold) (acts : List Act)
+      → Serving state rows before now first mid hold acts → Looked state mid next → Serving state rows before now first next hold acts
+
+  abbrev pub WholeServes : Type 0
+  WholeServes = (rows : List Row) (before now : Option (List Call)) (first last : ServerView Tables) (hold : Hold) (acts : List Act)
+      → Serving state rows before now first last hold acts → ServedOver state rows first last acts NoRoom
+
+  abbrev pub TurnsCutServe : Type 0
+  TurnsCutServe = (rows : List Row) (before now after : Option (List Call)) (first mid new : ServerView Tables) (hold : Hold) (acts : List Act) (count : ℕ)
+      (fault : TurnFault) → Serving state rows before now first mid hold acts
+      → (off : TurnsCut (Moves state) (Fails state) now after mid new hold count fault)
+      → ServedOver state rows first off.mid (acts ++ all_turned off.turns) off.cut
+
+  abbrev pub StepsServe : Type 0
+  StepsServe = (old new : ServerView Tables) (steps : List Step) → Runs (Moves state) old new steps → Serves state old new steps
+
+  abbrev pub RowsServe : Type 0
+  RowsServe = (rows : List Row) (first last : ServerView Tables) (acts : List Act) (cut : Cut) → ServedOver state rows first last acts cut
+      → (state last.tables).honest → (state last.tables).rows ≡ (world_after first.institutions rows (served_events acts cut)).rows
+
+  -- what holds of a server's institutions and rows holds of those of the serving, after its acts
+  module _ (histories : StepsServe) (whole : WholeServes) (kept : RowsServe) where
+    pub holds-of : (IsSo : List Institution → List Row → Type 0) (old : TurnerView Tables)
+        → (AreHonest state → IsSo old.server.institutions (state old.server.tables).rows)
+        → Holds state old (λ institutions rows done. IsSo institutions (rows_after institutions rows done))
+    holds-of IsSo old so now honest rows start first done s =
+        let same : old.server.institutions ≡ first.institutions =
+        s.steps.looks.institutions ∙ (histories first s.steps.last (flat_map act_steps done) s.steps.runs).institutions in
+        let are : (state old.server.tables).rows ≡ rows_after first.institutions rows done =
+        kept rows first old.server done NoRoom (whole rows start now first old.server old.hold done s) (honest old.server.tables) in
+        subst (λ (i : List Institution). IsSo i (rows_after first.institutions rows done)) same
+        (subst (λ (r : List Row). IsSo old.server.institutions r) are (so honest))
+
+  -- what holds after acts
+  pub holds-later : {before after : Option (List Call)} {old mid : TurnerView Tables} {acts : List Act} (AreSo : List Institution → List Row → List Act → Type 0)
+      → WentOn state before after old mid acts → HoldsAt state after mid AreSo
+      → HoldsAt state before old (λ institutions rows done. AreSo institutions rows (done ++ acts))
+  holds-later {acts = acts} AreSo went next honest rows start first done s =
+      next honest rows start first (done ++ acts) (went.serves rows start first done s)
+
+  pub went-nowhere : (log : Option (List Call)) (it : TurnerView Tables) → WentOn state log log it it []
+  went-nowhere log it = record {
+    serves = λ rows start first done s. rw append-nil s;
+    working = λ works. works;
+  }
+
+  module _ {before now after : Option (List Call)} {old mid new : TurnerView Tables} {acts later : List Act} where
+    pub went-then : WentOn state before now old mid acts → WentOn state now after mid new later → WentOn state before after old new (acts ++ later)
+    went-then one next = record {
+      serves = λ rows start first done s. rw (← append_assoc done acts later) (next.serves rows start first (done ++ acts) (one.serves rows start first done s));
+      working = λ works. next.working (one.working works);
+    }
+
+  pub went-by-turns : {before after : Option (List Call)} {old new : TurnerView Tables} {count : ℕ} → TurnsServe
+      → (went : TurnsWent (Moves state) before after old.server new.server old.hold new.hold count) → new.fault ≡ None
+      → WentOn state before after old new (all_turned went.turns)
+  went-by-turns {before} {after} {old} {new} {count} law went works = record {
+    serves = λ rows start first done s. law rows start before after first old.server new.server old.hold new.hold done count s went;
+    working = λ worked. works;
+  }
+
+  module _ {old new : TurnerView Tables} (hold : new.hold ≡ old.hold) (fault : new.fault ≡ old.fault) where
+    pub went-by-order : OrdersServe → (event : Event) (reply : Reply) → IsOrder event → Stepped state old.server new.server event reply
+        → Attended state old new (Ordered event reply ∷ [])
+    went-by-order law event reply order step = λ log. record {
+      serves = λ rows start first done s.
+          rw hold (law rows start log first old.server new.server old.hold done event reply s order step);
+      working = λ works. fault ∙ works;
+    }
+
+    pub went-by-look : LooksServe → Looked state old.server new.server → Attended state old new []
+    went-by-look law look = λ log. record {
+      serves = λ rows start first done s. rw (hold, append-nil) (law rows start log first old.server new.server old.hold done s look);
+      working = λ works. fault ∙ works;
+    }
+
+    pub went-by-nothing : new.server ≡ old.server → Attended state old new []
+    went-by-nothing same = λ log. record {
+      serves = λ rows start first done s. rw (same, hold, append-nil) s;
+      working = λ works. fault ∙ works;
+    }
+
+  module _ {old new : TurnerView Tables} (hold : new.hold ≡ old.hold) (fault : new.fault ≡ old.fault) (copied : List Row → Type 0) (names : List (List ℕ))
+      (orders : OrdersServe) (looks : LooksServe) (histories : StepsServe) (whole : WholeServes) (kept : RowsServe) where
+    order-responds : (asked : Request) (event : Event) (answer : Response) → IsOrder event
+        → ((acts : List Act) → OrdersOnce event answer acts → IsAnswer asked answer acts)
+        → ((institutions : List Institution) (rows : List Row) → TellsOf institutions names rows asked answer)
+        → Orders state old.server new.server event answer → Responds state names old new asked answer
+    order-responds asked event answer order is tells done = record {
+      stepped = Ordered event done.0 ∷ [];
+      is = is (Ordered event done.0 ∷ []) (done.0, refl, done.2);
+      acts = went-by-order hold fault orders event done.0 order done.1;
+      tells = λ now honest rows start first acts s. tells first.institutions (rows_after first.institutions rows acts);
+    }
+
+    look-responds : (asked : Request) (answer : Response) → IsAnswer asked answer []
+        → (AreHonest state → TellsOf old.server.institutions names (state old.server.tables).rows asked answer)
+        → Looked state old.server new.server → Responds state names old new asked answer
+    look-responds asked answer is tells looked = record {
+      stepped = [];
+      is = is;
+      acts = went-by-look hold fault looks looked;
+      tells = holds-of histories whole kept (λ (institutions : List Institution) (rows : List Row). TellsOf institutions names rows asked answer) old tells;
+    }
+
+    -- what is asked was done, and its answer is of the rows as they are
+    pub responds : (asked : Request) (answer : Response) → Answered state copied names old.server new.server asked answer
+        → Responds state names old new asked answer
+    responds (request.Search asked) answer is =
+        look-responds (request.Search asked) answer refl (λ honest. is.1 (honest new.server.tables)) is.0
+    responds (request.Counts name) answer is =
+        look-responds (request.Counts name) answer refl (λ honest. is.1 (honest new.server.tables)) is.0
+    responds request.Report answer is = look-responds request.Report answer refl (λ honest. is.1 (honest new.server.tables)) is.0
+    responds (request.Schedule institution octets) answer is =
+        order-responds (request.Schedule institution octets) (event.Schedule institution octets) answer tt (λ acts once. once) (λ institutions rows. tt) is
+    responds (request.Withdraw institution id) answer is =
+        order-responds (request.Withdraw institution id) (event.Withdraw institution id) answer tt (λ acts once. once) (λ institutions rows. tt) is
+    responds (request.Backup path) answer is =
+        look-responds (request.Backup path) answer (refl, (is.made, is.answer_is)) (λ honest. tt) is.looked
+
+    -- what a line tells was done, and the client has its answer
+    pub does-line : (octets text : List ℕ) (client next : HeldClient) (is_over : Bool) → next ≡ client_with_answer client text is_over → (l : ConsoleLine)
+        → TellsLine octets l → is_over ≡ is_bad l → LineAnswered state copied names old.server new.server l text
+        → Does state names old new octets client next
+    does-line octets text client next is_over put (line.Asked asked) tells bad is =
+        let answered = responds asked is.0 is.1 in
+        record {
+          answer = Obeyed (record { asked = asked; answer = is.0; acts = answered.stepped });
+          is = (tells, answered.is);
+          acts = answered.acts;
+          leaves = put ∙ ap₂ (λ (t : List ℕ) (b : Bool). client_with_answer client t b) is.2 bad;
+          tells = answered.tells;
+        }
+    does-line octets text client next is_over put (line.Misspelled word) tells bad is = record {
+      answer = Refused (string_bytes word);
+      is = tells;
+      acts = went-by-nothing hold fault is.0;
+      leaves = put ∙ ap₂ (λ (t : List ℕ) (b : Bool). client_with_answer client t b) is.1 bad;
+      tells = λ now honest rows start first done s. tt;
+    }
+    does-line octets text client next is_over put line.Bad tells bad is = record {
+      answer = Unread;
+      is = tells;
+      acts = went-by-nothing hold fault is.0;
+      leaves = put ∙ ap₂ (λ (t : List ℕ) (b : Bool). client_with_answer client t b) is.1 bad;
+      tells = λ now honest rows start first done s. tt;
+    }
+
+  -- a turner as it was, but for its server
+  abbrev at-server : TurnerView Tables → ServerView Tables → TurnerView Tables
+  at-server old at = record { server = at; hold = old.hold; fault = old.fault }
+
+  -- an order that is not answered, of the line that asks for it
+  of-line : (octets : List ℕ) (asked : Request) (order : Option (Event × Reply)) → SpellsRequest octets asked → IsUnanswered asked order
+      → IsLineUnanswered octets order
+  of-line octets asked None tells is = tt
+  of-line octets asked (Some order) tells is = (asked, tells, is)
+
+  -- it was done, and there is no memory for its answer
+  pub unanswered-after : (copied : List Row → Type 0) (names : List (List ℕ)) (old new : ServerView Tables) (asked : Request) (answer : Response)
+      → Answered state copied names old new asked answer → Unanswered state old new asked
+  unanswered-after copied names old new (request.Search it) answer is = (new, is.0, inl refl)
+  unanswered-after copied names old new (request.Counts name) answer is = (new, is.0, inl refl)
+  unanswered-after copied names old new request.Report answer is = (new, is.0, inl refl)
+  unanswered-after copied names old new (request.Schedule institution octets) answer is = inr (inr (is.0, is.1))
+  unanswered-after copied names old new (request.Withdraw institution id) answer is = inr (inr (is.0, is.1))
+  unanswered-after copied names old new (request.Backup path) answer is = (new, is.looked, inl refl)
+
+  -- nothing was done
+  pub halted-before : (old : TurnerView Tables) (asked : Request) → HaltedBy state old old asked
+  halted-before old asked =
+      record { order = None; is = tt; last = old; acts = λ log. went-nowhere log old; left = inl refl }
+
+  -- what the web front asked was answered, or nothing was asked
+  pub none-responded : {IsFront : Option Answering → Type 0} (names : List (List ℕ)) (it : TurnerView Tables) → IsFront None
+      → RespondedBy state names it it IsFront
+  none-responded names it is = record {
+    asked = None;
+    are = tt;
+    acts = λ log. went-nowhere log it;
+    tells = λ now honest rows start first done s. tt;
+    front = is;
+  }
+
+  pub one-responded : {IsFront : Option Answering → Type 0} (names : List (List ℕ)) (old new : TurnerView Tables) (asked : Request) (answer : Response)
+      → (one : Responds state names old new asked answer) → ((acts : List Act) → IsFront (Some (record { asked = asked; answer = answer; acts = acts })))
+      → RespondedBy state names old new IsFront
+  one-responded names old new asked answer one is = record {
+    asked = Some (record { asked = asked; answer = answer; acts = one.stepped });
+    are = one.is;
+    acts = one.acts;
+    tells = one.tells;
+    front = is one.stepped;
+  }
+
+  -- there is no answer to a request, for a fault
+  module _ {old new : TurnerView Tables} (orders : OrdersServe) (looks : LooksServe) where
+    looks-halted : (asked : Request) → LooksInPart state old.server new.server → HaltedBy state old new asked
+    looks-halted asked looked = record {
+      order = None;
+      is = tt;
+      last = at-server old looked.0;
+      acts = went-by-look {old = old} {new = at-server old looked.0} refl refl looks looked.1;
+      left = looked.2;
+    }
+
+    order-halted : (asked : Request) (event : Event) → IsOrder event → order_in asked ≡ Some event
+        → OrdersInPart state old.server new.server event → HaltedBy state old new asked
+    order-halted asked event order is (inl same) =
+        record { order = None; is = tt; last = old; acts = λ log. went-nowhere log old; left = inl same }
+    order-halted asked event order is (inr (inl fails)) =
+        record { order = None; is = tt; last = old; acts = λ log. went-nowhere log old; left = inr (inl (event, fails.0, fails.1)) }
+    order-halted asked event order is (inr (inr stepped)) = record {
+      order = Some (event, stepped.0);
+      is = is;
+      last = at-server old new.server;
+      acts = went-by-order {old = old} {new = at-server old new.server} refl refl orders event stepped.0 order stepped.1;
+      left = inl refl;
+    }
+
+    pub request-halted : (asked : Request) → Unanswered state old.server new.server asked → HaltedBy state old new asked
+    request-halted (request.Search asked) looked = looks-halted (request.Search asked) looked
+    request-halted (request.Counts name) looked = looks-halted (request.Counts name) looked
+    request-halted request.Report looked = looks-halted request.Report looked
+    request-halted (request.Schedule institution octets) ordered =
+        order-halted (request.Schedule institution octets) (event.Schedule institution octets) tt refl ordered
+    request-halted (request.Withdraw institution id) ordered =
+        order-halted (request.Withdraw institution id) (event.Withdraw institution id) tt refl ordered
+    request-halted (request.Backup path) looked = looks-halted (request.Backup path) looked
+
+    -- nor to a line
+    pub line-halted : (octets : List ℕ) (l : ConsoleLine) → TellsLine octets l → LineUnanswered state old.server new.server l → Halted state old new octets
+    line-halted octets (line.Asked asked) tells unanswered =
+        let halted = request-halted asked unanswered in
+        record {
+          order = halted.order;
+          is = of-line octets asked halted.order tells halted.is;
+          last = halted.last;
+          acts = halted.acts;
+          left = halted.left;
+        }
+    line-halted octets (line.Misspelled word) tells same =
+        record { order = None; is = tt; last = old; acts = λ log. went-nowhere log old; left = inl same }
+    line-halted octets line.Bad tells same = record { order = None; is = tt; last = old; acts = λ log. went-nowhere log old; left = inl same }

@@ -1,0 +1,7 @@
+use Rattle.std.proofs.Common.{inr}
+use Rattle.dq_captures.proofs.Written.{OnErr-known}
+use Rattle.dq_console.proofs.searching.search.Goals as goal
+
+pub returns-in_err-steps-clause-cut : goal.returns-in_err-steps-clause-cut
+returns-in_err-steps-clause-cut g c =
+    OnErr-known c.from_residual.result (_, c.looks_are_one_look.ensures.no_look _, inr (inr (_, c.in_err-steps.ensures.fails)))

@@ -1,0 +1,234 @@
+-- How parts of a turn of the console went. This is there for the prover.
+use Rattle.std.specs.Prelude.{◌≡◌, ◌≢◌, ℕ, Bool, true, false, if◌then◌else◌, List, [], ◌∷◌, ◌++◌, map, Option, Some, None, Result, string_bytes}
+use Rattle.std.specs.List.{flat_map}
+use Rattle.dq_config.specs.declared.config.Institution.{Institution}
+use Rattle.dq_tables.specs.declared.row.Row.{Row}
+use Rattle.dq_tables.specs.Keeping.{State}
+use Rattle.dq_core.specs.declared.event.Event.{Event}
+use Rattle.dq_core.specs.declared.event.Reply.{Reply}
+use Rattle.dq_wires.specs.declared.calls.WireFault.{WireFault}
+use Rattle.dq_wires.specs.declared.calls.ReadOutcome.{ReadOutcome}
+use Rattle.dq_wires.specs.declared.calls.ReadOutcome.TheVariants as what
+use Rattle.dq_wires.specs.declared.calls.Call.{Call}
+use Rattle.dq_wires.specs.declared.calls.Call.TheVariants.{Read, Write}
+use Rattle.dq_wires.specs.ConnectionActions.{Shutting}
+use Rattle.dq_wires.specs.Logs.{Logs, LogsAll}
+use Rattle.dq_wires.specs.Servings.{Act}
+use Rattle.dq_wires.specs.Turners.{TurnerView}
+use Rattle.dq_console.specs.declared.console_client.Next.{Next}
+use Rattle.dq_console.specs.declared.console_client.Next.TheVariants as next
+use Rattle.dq_console.specs.Console.{HeldClient, HasNone, HasLine, first_line, without_line, TakesMore, MayBring, with_octets, after_write, LineAnswer, IsLineAnswer, line_answer_text, answer_acts, is_unread, client_with_answer, ClientTurn, IsClientTurn, client_turn_calls, client_turn_acts, after_client_turn, Letting, IsLetting, letting_calls, with_let_in, Visit, client_of, clients_kept, visit_calls, visit_acts, IsShut, AreVisits, IsUnanswered, IsLineUnanswered, order_acts, Answering, IsAnswer, TellsOf, asked_acts, IsAnsweringIf, AskedTells, AttendingTells, Attending, IsAttending, attending_calls, attending_acts, after_attending, Interruption, IsInterruption, interruption_calls, interruption_acts, rows_after, TellsRows, ClientTurnTells, VisitsTell}
+use Rattle.dq_request.specs.declared.request.Request.{Request}
+use Rattle.dq_request.specs.declared.response.Response.{Response}
+use Rattle.dq_core.specs.ServerView.{ServerView}
+use Rattle.dq_console.specs.declared.console_line.ConsoleLine.{ConsoleLine}
+use Rattle.dq_console.specs.declared.console_line.ConsoleLine.TheVariants as line
+use Rattle.dq_console.specs.ConsoleLines.{response_text, misspelled_text, bad_line}
+use Rattle.dq_console.specs.Requests.{IsLeft, Answered, Unanswered}
+use Rattle.dq_console.specs.ServiceProgress.{Attended, Holds}
+
+-- what is taken of a client
+abbrev pub TakesLine : HeldClient → HeldClient → Option (List ℕ) → Type 0
+TakesLine old new None = HasNone old.came × (new ≡ old)
+TakesLine old new (Some line) =
+    HasLine old.came × (line ≡ first_line old.came) × (new ≡ without_line old)
+
+-- What is not written was offered: the client is still there, or the write failed.
+abbrev pub Writes : Option (List Call) → Option (List Call) → HeldClient → HeldClient → Bool → Type 0
+Writes before after old new there = (taken : Result ℕ WireFault)
+    × Logs before after (Write old.place old.unsent taken)
+    × (after_write old taken ≡ (if there then new ∷ [] else []))
+
+-- From a client was read, so many octets at most. What came is kept; or no more comes, or there is
+-- no memory for it.
+abbrev pub Reads : Option (List Call) → Option (List Call) → ℕ → HeldClient → HeldClient → Bool → Type 0
+Reads before after room old new true = (came : ReadOutcome) × Logs before after (Read old.place room came)
+    × MayBring came × (new ≡ with_octets old came)
+Reads before after room old new false = (came : ReadOutcome)
+    × Logs before after (Read old.place room came) × (came ≢ what.Nothing)
+
+-- something was done for a client, which took no line, and it is still there or not
+pub record Quiet (before after : Option (List Call)) (old new : HeldClient)
+    (there : Bool) : Type 0 where
+  pub client_turn : ClientTurn
+  pub is : IsClientTurn old client_turn
+  pub quiet : client_turn_acts client_turn ≡ []
+  pub tells : (institutions : List Institution) (names : List (List ℕ)) (rows : List Row)
+      (done : List Act) → ClientTurnTells institutions names rows done old client_turn
+  pub calls : LogsAll before after (client_turn_calls old client_turn)
+  pub leaves : after_client_turn old client_turn ≡ (if there then new ∷ [] else [])
+
+-- what comes next of a client
+abbrev pub ComesNext : Option (List Call) → Option (List Call) → HeldClient → HeldClient → Next → Type 0
+ComesNext before after old new next.Held = Quiet before after old new true
+ComesNext before after old new next.Left = Quiet before after old new false
+ComesNext before after old new (next.Line line) = TakesMore old × HasLine old.came
+    × (line.items ≡ first_line old.came) × (new ≡ without_line old) × (after ≡ before)
+
+module _ {Tables : Type 0} (state : Tables → State) where
+  -- A fault came at a line, and there is no answer to it.
+  pub record Halted (old new : TurnerView Tables) (line : List ℕ) : Type 0 where
+    pub order : Option (Event × Reply)
+    pub is : IsLineUnanswered line order
+    pub last : TurnerView Tables
+    pub acts : Attended state old last (order_acts order)
+    pub left : IsLeft state last.server new.server
+
+  -- in the turn of a client, whose line was taken
+  abbrev pub HaltedAt : Option (List Call) → Option (List Call) → TurnerView Tables → TurnerView Tables
+      → HeldClient → Type 0
+  HaltedAt before after old new client = TakesMore client × HasLine client.came
+      × (after ≡ before) × Halted old new (first_line client.came)
+
+  -- A fault came at a request of the web front, and there is no answer to it.
+  pub record HaltedBy (old new : TurnerView Tables) (asked : Request) : Type 0 where
+    pub order : Option (Event × Reply)
+    pub is : IsUnanswered asked order
+    pub last : TurnerView Tables
+    pub acts : Attended state old last (order_acts order)
+    pub left : IsLeft state last.server new.server
+
+  -- at some request of it
+  abbrev pub HaltedAtFront : TurnerView Tables → TurnerView Tables → Type 0
+  HaltedAtFront old new = (asked : Request) × HaltedBy old new asked
+
+-- what is answered to a line, and what a fault leaves
+module _ {Tables : Type 0} (state : Tables → State) (copied : List Row → Type 0)
+    (names : List (List ℕ)) where
+  abbrev pub LineAnswered : ServerView Tables → ServerView Tables → ConsoleLine → List ℕ → Type 0
+  LineAnswered old new (line.Asked asked) text = (answer : Response)
+      × Answered state copied names old new asked answer × (text ≡ response_text answer)
+  LineAnswered old new (line.Misspelled word) text =
+      (new ≡ old) × (text ≡ misspelled_text (string_bytes word))
+  LineAnswered old new line.Bad text = (new ≡ old) × (text ≡ bad_line)
+
+module _ {Tables : Type 0} (state : Tables → State) where
+  abbrev pub LineUnanswered : ServerView Tables → ServerView Tables → ConsoleLine → Type 0
+  LineUnanswered old new (line.Asked asked) = Unanswered state old new asked
+  LineUnanswered old new other = new ≡ old
+
+-- over the names of the institutions
+module _ {Tables : Type 0} (state : Tables → State) (names : List (List ℕ)) where
+  -- what a line tells was done, and the client has its answer
+  pub record Does (old new : TurnerView Tables) (line : List ℕ) (client next : HeldClient) : Type 0 where
+    pub answer : LineAnswer
+    pub is : IsLineAnswer line answer
+    pub acts : Attended state old new (answer_acts answer)
+    pub leaves : next ≡ client_with_answer client (line_answer_text answer) (is_unread answer)
+    pub tells : Holds state old (λ institutions rows done.
+        TellsRows institutions names (rows_after institutions rows done) answer)
+
+  -- the same; or there was no memory for the line, and nothing was done
+  abbrev pub DoesIf : TurnerView Tables → TurnerView Tables → List ℕ → HeldClient → HeldClient → Bool → Type 0
+  DoesIf old new line client next true = Does old new line client next
+  DoesIf old new line client next false = new ≡ old
+
+  -- the turn of a client was made, but for its shut if it is gone
+  pub record ClientTurnMade (before after : Option (List Call)) (old new : TurnerView Tables)
+      (client next : HeldClient) (there : Bool) : Type 0 where
+    pub client_turn : ClientTurn
+    pub is : IsClientTurn client client_turn
+    pub calls : LogsAll before after (client_turn_calls client client_turn)
+    pub acts : Attended state old new (client_turn_acts client_turn)
+    pub leaves : after_client_turn client client_turn ≡ (if there then next ∷ [] else [])
+    pub tells : Holds state old (λ institutions rows done.
+        ClientTurnTells institutions names rows done client client_turn)
+
+  -- it was made
+  pub record Visited (before after : Option (List Call)) (old new : TurnerView Tables)
+      (client next : HeldClient) (there : Bool) : Type 0 where
+    pub client_turn : ClientTurn
+    pub is : IsClientTurn client client_turn
+    pub shut : Option Shutting
+    pub shuts : IsShut (after_client_turn client client_turn) shut
+    pub calls : LogsAll before after
+        (visit_calls (record { client = client; client_turn = client_turn; shut = shut }))
+    pub acts : Attended state old new (client_turn_acts client_turn)
+    pub leaves : after_client_turn client client_turn ≡ (if there then next ∷ [] else [])
+    pub tells : Holds state old (λ institutions rows done.
+        ClientTurnTells institutions names rows done client client_turn)
+
+  -- the turns of all were made
+  pub record AllVisited (before after : Option (List Call)) (old new : TurnerView Tables)
+      (from to : List HeldClient) : Type 0 where
+    pub visits : List Visit
+    pub each : map client_of visits ≡ from
+    pub are : AreVisits visits
+    pub calls : LogsAll before after (flat_map visit_calls visits)
+    pub acts : Attended state old new (flat_map visit_acts visits)
+    pub kept : to ≡ flat_map clients_kept visits
+    pub tells : Holds state old (λ institutions rows done.
+        VisitsTell institutions names rows done visits)
+
+  -- the turns of some were made, and a fault came in that of the next
+  pub record SomeVisited (before after : Option (List Call)) (old new : TurnerView Tables)
+      (from : List HeldClient) : Type 0 where
+    pub visits : List Visit
+    pub client : HeldClient
+    pub others : List HeldClient
+    pub each : map client_of visits ++ client ∷ others ≡ from
+    pub are : AreVisits visits
+    pub calls : LogsAll before after (flat_map visit_calls visits)
+    pub listening : TakesMore client
+    pub has : HasLine client.came
+    pub order : Option (Event × Reply)
+    pub is : IsLineUnanswered (first_line client.came) order
+    pub last : TurnerView Tables
+    pub acts : Attended state old last (flat_map visit_acts visits ++ order_acts order)
+    pub left : IsLeft state last.server new.server
+    pub tells : Holds state old (λ institutions rows done.
+        VisitsTell institutions names rows done visits)
+
+  -- a request was answered so
+  pub record Responds (old new : TurnerView Tables) (asked : Request) (answer : Response) : Type 0 where
+    pub stepped : List Act
+    pub is : IsAnswer asked answer stepped
+    pub acts : Attended state old new stepped
+    pub tells : Holds state old (λ institutions rows done.
+        TellsOf institutions names (rows_after institutions rows done) asked answer)
+
+  -- what the web front asked was answered, or nothing was asked
+  pub record RespondedBy (old new : TurnerView Tables) (IsFront : Option Answering → Type 0) : Type 0 where
+    pub asked : Option Answering
+    pub are : IsAnsweringIf asked
+    pub acts : Attended state old new (asked_acts asked)
+    pub tells : Holds state old (λ institutions rows done.
+        AskedTells institutions names rows done asked)
+    pub front : IsFront asked
+
+  -- a turn was made: `IsFront` tells what the web front asked and was answered
+  pub record Attends (before after : Option (List Call)) (old new : TurnerView Tables)
+      (clients left : List HeldClient) (IsFront : Option Answering → Type 0) : Type 0 where
+    pub attending : Attending
+    pub is : IsAttending clients attending
+    pub calls : LogsAll before after (attending_calls attending)
+    pub acts : Attended state old new (attending_acts attending)
+    pub leaves : left ≡ after_attending attending
+    pub tells : Holds state old (λ institutions rows done.
+        AttendingTells institutions names rows done attending)
+    pub front : IsFront attending.asked
+
+  -- a turn was interrupted
+  pub record Interrupted (before after : Option (List Call)) (old new : TurnerView Tables)
+      (clients : List HeldClient) : Type 0 where
+    pub it : Interruption
+    pub is : IsInterruption clients it
+    pub calls : LogsAll before after (interruption_calls it)
+    pub last : TurnerView Tables
+    pub acts : Attended state old last (interruption_acts it)
+    pub left : IsLeft state last.server new.server
+    pub tells : Holds state old (λ institutions rows done.
+        VisitsTell institutions names rows done it.visits)
+
+-- The request that waited is answered, and its answer is given to the web front; or none waited, and it is as it was.
+abbrev pub IsFrontServed : {Front : Type 0} → (Front → Option Request) → (Front → Front → Response → Type 0)
+    → Front → Front → Option Answering → Type 0
+IsFrontServed waiting answers old new None = (waiting old ≡ None) × (new ≡ old)
+IsFrontServed waiting answers old new (Some it) = (waiting old ≡ Some it.asked) × answers old new it.answer
+
+-- a turn began
+pub record LetsIn (before after : Option (List Call)) (from to : List HeldClient) : Type 0 where
+  pub letting : Letting
+  pub lets : IsLetting from letting
+  pub calls : LogsAll before after (letting_calls letting)
+  pub leaves : to ≡ with_let_in from letting

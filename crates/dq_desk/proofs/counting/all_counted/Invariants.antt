@@ -1,9 +1,0 @@
-use Rattle.std.proofs.Common.{◌≡◌, map, take}
-use Rattle.dq_desk.specs.Requests.{counted}
-use Rattle.dq_desk.proofs.counting.all_counted.Given as goal
-
-abbrev pub invariant-loop-name : goal.invariant-loop-name
-invariant-loop-name g l = record {
-  all : g.C.Counting.is_honest l.rows → l.all ≡ map (counted (g.C.Counting.rows l.initial.rows)) (take l.name-index l.names);
-  leads : g.C.Counting.leads l.initial.rows l.rows;
-}

@@ -1,6 +1,0 @@
-use Rattle.std.proofs.Common.{◌≡◌, take}
-use Rattle.dq_desk.specs.Lines.{counted_text}
-use Rattle.dq_desk.proofs.lines.counted_text.Given as goal
-
-abbrev pub invariant-loop-counted : goal.invariant-loop-counted
-invariant-loop-counted l = l.text.items ≡ counted_text (take l.counted-index l.all)

@@ -1,9 +1,0 @@
-use Rattle.std.proofs.Common.{ap, inl}
-use Rattle.dq_captures.proofs.Written.{OnErr-known}
-use Rattle.dq_wires.specs.Turners.{Turning}
-use Rattle.dq_desk.proofs.requests.back_up.Goals as goal
-
-pub returns-in_err-made-clause-cut : goal.returns-in_err-made-clause-cut
-returns-in_err-made-clause-cut g c =
-    OnErr-known c.from_residual.result
-    (_, c.looks_are_one_look.ensures.no_look _, inl (ap (λ (t : Turning g.row.T.Denot). t.server) c.in_err-made.ensures.unchanged))

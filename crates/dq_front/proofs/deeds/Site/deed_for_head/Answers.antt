@@ -1,6 +1,0 @@
-use Rattle.std.proofs.Common.{true, refl}
-use Rattle.dq_front.proofs.deeds.Site.deed_for_head.Goals as goal
-
-pub returns-in_ok-refused-in-Some : goal.returns-in_ok-refused-in-Some
-returns-in_ok-refused-in-Some c came begun =
-    (c.in-Some.refusal, record { is_last = true; is_head = c.is_head.result; date = c.args.date }, refl, c.in_ok-refused-in-Some.ensures)

@@ -1,7 +1,0 @@
-use Rattle.std.proofs.Common.{◌≡◌, ◌++◌, string_bytes, take, map}
-use Rattle.dq_front.specs.Notes.{told_octet}
-use Rattle.dq_front.proofs.noting.put_told.Given as goal
-
-abbrev pub invariant-loop-octet : goal.invariant-loop-octet
-invariant-loop-octet l =
-    string_bytes l.text ≡ string_bytes l.fn.text ++ map told_octet (take l.octet-index l.front)

@@ -1,5 +1,0 @@
-pub mod Deeds
-pub mod Notes
-pub mod Sites
-pub mod Visits
-pub mod Waiting

@@ -1,0 +1,12 @@
+use Rattle.std.proofs.Common.{◌≡◌, ◌-◌, length}
+use Rattle.dq_http.proofs.HttpTurns.{TurnsSo}
+use Rattle.dq_http.proofs.http_server.HttpServer.attend.Given as goal
+
+abbrev pub invariant-loop-at : goal.invariant-loop-at
+invariant-loop-at g l = record {
+  so : TurnsSo l.initial.self.state.guard l.initial.self.connections.items l.self.connections.items l.at;
+  state : l.self.state ≡ l.initial.self.state;
+}
+
+abbrev pub decreases-loop-at : goal.decreases-loop-at
+decreases-loop-at g l = length l.self.connections.items - l.at

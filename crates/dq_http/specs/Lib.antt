@@ -1,0 +1,5 @@
+pub mod RequestOutcomes
+pub mod Notes
+pub mod InstitutionLimits
+pub mod HttpConnections
+pub mod RequestQueue

@@ -1,0 +1,73 @@
+-- Which request is answered next.
+use Rattle.std.specs.Prelude.{◌≡◌, ◌⊎◌, ℕ, ◌+◌, ◌++◌, List, [], ◌∷◌, take, drop, position, slice_get, slice_set, Option, Some, None}
+use Rattle.std.specs.Option.{option_and_then}
+use Rattle.std.specs.declared.net.socket_addr.SocketAddr.{SocketAddr}
+use Rattle.dq_config.specs.declared.config.Institution.{Institution}
+use Rattle.dq_request.specs.declared.request.Request.{Request}
+use Rattle.dq_request.specs.declared.response.Response.{Response}
+use Rattle.dq_web.specs.declared.guard.Guard.{Guard}
+use Rattle.dq_http.specs.declared.http_server.HttpServer.{HttpServer}
+use Rattle.dq_http.specs.declared.http_connection.HttpConnection.{HttpConnection}
+use Rattle.dq_http.specs.HttpConnections.{IsNew, is_waiting, asked_in, AnswersAt, HasTurn}
+
+-- where the first connection stands whose request waits
+abbrev pub first_waiting : List HttpConnection → Option ℕ
+first_waiting connections = position is_waiting connections
+
+abbrev pub asked_by : HttpConnection → Option Request
+asked_by connection = asked_in connection.stage
+
+abbrev pub asked_at : List HttpConnection → Option ℕ → Option Request
+asked_at connections None = None
+asked_at connections (Some at) = option_and_then asked_by (slice_get connections at)
+
+-- the request that waits first
+abbrev pub waiting : List HttpConnection → Option Request
+waiting connections = asked_at connections (first_waiting connections)
+
+-- those behind a place, and then those up to it
+abbrev pub from_behind : ℕ → List HttpConnection → List HttpConnection
+from_behind at connections = drop (at + 1) connections ++ take (at + 1) connections
+
+-- The connection at a place is answered, and is then the last to be answered again. All others are as they were.
+abbrev pub AnswersOne : List Institution → Option ℕ → List HttpConnection → List HttpConnection → Response → Type 0
+AnswersOne institutions None old new response = new ≡ old
+AnswersOne institutions (Some at) old new response = (connection : HttpConnection) × (answered : HttpConnection)
+    × (slice_get old at ≡ Some connection) × AnswersAt institutions connection.stage response connection answered
+    × (new ≡ from_behind at (slice_set old at answered))
+
+-- That of the request that waits first is.
+abbrev pub Answers : List Institution → List HttpConnection → List HttpConnection → Response → Type 0
+Answers institutions old new response = AnswersOne institutions (first_waiting old) old new response
+
+-- ---- all turns
+
+-- Each connection has its turn, in their order, and is kept as that leaves it, or is let go.
+abbrev pub AllTurn : Guard → List HttpConnection → List HttpConnection → Type 0
+AllTurn guard [] new = new ≡ []
+AllTurn guard (connection ∷ others) new = AllTurn guard others new
+    ⊎ ((kept : HttpConnection) × (rest : List HttpConnection) × (new ≡ kept ∷ rest) × HasTurn guard connection kept
+    × AllTurn guard others rest)
+
+abbrev pub AreNew : List HttpConnection → Type 0
+AreNew [] = Unit {0}
+AreNew (connection ∷ others) = ((place : ℕ) × (peer : Option SocketAddr) × IsNew place peer connection) × AreNew others
+
+-- connections are let in behind the others
+abbrev pub LetsIn : List HttpConnection → List HttpConnection → Type 0
+LetsIn old new = (came : List HttpConnection) × AreNew came × (new ≡ old ++ came)
+
+-- ---- of a server
+
+abbrev pub next_of : {Wired : Type 0} → HttpServer Wired → Option Request
+next_of server = waiting server.connections.items
+
+-- Only its connections change.
+abbrev pub Answered : {Wired : Type 0} → HttpServer Wired → HttpServer Wired → Response → Type 0
+Answered old new response = Answers old.state.institutions.items old.connections.items new.connections.items response
+    × (new.wires ≡ old.wires) × (new.state ≡ old.state)
+
+-- Connections are let in, and then all have their turns.
+abbrev pub Attended : {Wired : Type 0} → HttpServer Wired → HttpServer Wired → Type 0
+Attended old new = (all : List HttpConnection) × LetsIn old.connections.items all
+    × AllTurn old.state.guard all new.connections.items × (new.state ≡ old.state)

@@ -1,0 +1,401 @@
+//! A connection of the web front.
+ghost use Rattle.std.specs.Prelude.{◌≡◌, Option, option_copied, IfOk, OnOk};
+ghost use Rattle.std.specs.Bool.{OnTrue};
+ghost use Rattle.std.specs.declared.time.Instant.{Instant};
+ghost use Rattle.dq_web.specs.Answers.{IsReplyTo, IsResponse};
+ghost use Rattle.dq_http.specs.HttpConnections.{IsNew, IsOver, IsRest, WritesRest, IsSent, IsRead, IsTakenOff, with_response, AnswersAt, seen, awaiting_body, begun_wait, is_late, IsRefusedLate, Takes, TakesUp, TakesOrRefuses, Moves, Turns, is_waiting, is_busy, asked_in, asks_report};
+
+use crate::http_state::{Answer, Given, HttpState, RequestOutcome};
+use crate::request_log::Notes;
+use dq_list::Listed;
+use dq_request::{Request, Response};
+use dq_web::{Question, Written};
+use dq_wires::{ReadTurn, WireFault, Wires};
+use std::alloc::{AllocError, Global};
+use std::net::SocketAddr;
+use std::time::{Duration, Instant};
+
+/// The seconds in which the head of a request has to come, from the first octet of it, and of the first
+/// request from when the connection came.
+const HEAD_SECONDS: u64 = 15;
+
+/// The seconds in which its body has to come, from the end of its head.
+const BODY_SECONDS: u64 = 60;
+
+/// What a client waits for that asks to go on with the body of its request (RFC 9110 section 10.1.1).
+const CONTINUE: &[u8] = b"HTTP/1.1 100 Continue\r\n\r\n";
+
+/// What becomes of the request of a connection.
+#[derive(Drop)]
+pub(crate) enum Stage {
+    /// It is read.
+    Reading,
+    /// It waits for the server's response.
+    Waiting(Question),
+    /// A response is written: so many of its octets were.
+    Writing(Listed<u8>, usize),
+    /// The last response was written: nothing is read behind it (RFC 9112 section 9.6).
+    Over,
+}
+
+/// A connection: its place among the wires, its peer's address if that is known, what came and is not
+/// taken, what becomes of its request, and whether nothing comes after the response.
+#[derive(Drop)]
+pub(crate) struct HttpConnection {
+    pub place: usize,
+    pub peer: Option<SocketAddr>,
+    pub came: Vec<u8>,
+    pub stage: Stage,
+    pub is_last: bool,
+    /// What came has not been looked at since the last octet of it.
+    pub is_fresh: bool,
+    /// The client was told to go on with the body of its request.
+    pub is_continued: bool,
+    /// The head of its request is whole, and its body has not come.
+    pub awaits_body: bool,
+    /// When the wait for its head or for its body began, if one is waited for.
+    pub since: Option<Instant>,
+    /// The words of its request in the log, and when that was whole.
+    pub words: String,
+    pub begun: Option<Instant>,
+}
+
+impl HttpConnection {
+    /// One that has just come, at an instant if it is known.
+    pub fn new(alloc: Global, place: usize, peer: Option<SocketAddr>, now: Option<Instant>) -> Self
+        ensures { IsNew place peer result }
+        ensures since { result.since ≡ now }
+    {
+        HttpConnection {
+            place,
+            peer,
+            came: Vec::new(alloc),
+            stage: Stage::Reading,
+            is_last: false,
+            is_fresh: false,
+            is_continued: false,
+            awaits_body: false,
+            since: now,
+            words: String::new(alloc),
+            begun: None,
+        }
+    }
+
+    /// Whether its request waits for the server's response.
+    pub fn is_waiting(&self) -> bool
+        ensures { result ≡ is_waiting self.now }
+    {
+        matches!(self.stage, Stage::Waiting(_))
+    }
+
+    /// What it waits to be answered.
+    pub fn asked(&self) -> Option<&Request>
+        ensures { option_copied result ≡ asked_in self.now.stage }
+    {
+        match &self.stage {
+            Stage::Waiting(question) => Some(&question.asked),
+            Stage::Reading | Stage::Writing(..) | Stage::Over => None,
+        }
+    }
+
+    /// Whether it waits for a report of the counts.
+    pub fn wants_counts(&self) -> bool
+        ensures { result ≡ asks_report self.now }
+    {
+        matches!(self.asked(), Some(Request::Report))
+    }
+
+    /// Whether there is something to do that no octet has to come for.
+    pub fn is_busy(&self) -> bool
+        ensures { result ≡ is_busy self.now }
+    {
+        match self.stage {
+            Stage::Reading => self.is_fresh,
+            Stage::Waiting(_) | Stage::Over => true,
+            Stage::Writing(..) => false,
+        }
+    }
+
+    /// Keeps a response to be written.
+    fn put(&mut self, octets: Vec<u8>)
+        ensures { self.new ≡ with_response self.old octets.items }
+    {
+        self.stage = Stage::Writing(Listed::from_inner(octets), 0);
+    }
+
+    // The response of HTTP to its question, whose status is noted.
+    fn response_to(
+        &self,
+        question: &Question,
+        response: &Response,
+        state: &HttpState,
+        notes: &mut Notes,
+    ) -> Result<Written, AllocError>
+        ensures { IfOk result (IsResponse (IsReplyTo question.now response.now
+            state.now.institutions.items) question.now.framing) }
+    {
+        let written = state.response_to(question, response)?;
+        notes.tell(self.peer, self.words.as_str(), self.begun, written.status)?;
+        Ok(written)
+    }
+
+    /// Answers its question, if one waits. Where there is no memory for the response, none is written,
+    /// and the connection is over.
+    pub fn answer(&mut self, response: &Response, state: &HttpState, notes: &mut Notes)
+        ensures { AnswersAt state.now.institutions.items self.old.stage response.now self.old self.new }
+    {
+        let Stage::Waiting(question) = &self.stage else {
+            return;
+        };
+        match self.response_to(question, response, state, notes) {
+            Ok(written) => self.put(written.octets),
+            Err(AllocError) => self.stage = Stage::Over,
+        }
+    }
+
+    /// What is left of its response.
+    fn rest(&self) -> Option<&[u8]>
+        ensures { IsRest self.now.stage result }
+    {
+        let Stage::Writing(response, written) = &self.stage else {
+            return None;
+        };
+        match response.as_slice().split_at_checked(*written) {
+            Some((_, rest)) => Some(rest),
+            None => None,
+        }
+    }
+
+    /// Writes what is left of its response at its own place. The answer is whether the connection is still
+    /// there: it is not once the last response was written.
+    fn write<W: Wires>(&mut self, wires: &mut W) -> bool
+        ensures told { WritesRest self.old.place self.old.stage (W.log wires.old) (W.log wires.new) }
+        ensures wrote { OnTrue result (Moves self.old.stage self.old self.new) }
+    {
+        let Some(rest) = self.rest() else {
+            return false;
+        };
+        let left = rest.len();
+        match wires.write(self.place, rest) {
+            Ok(count) => {
+                self.advance(count, count >= left);
+                !matches!(self.stage, Stage::Over)
+            }
+            Err(WireFault) => false,
+        }
+    }
+
+    /// Counts octets that were written, the last ones of the response if that is said.
+    fn advance(&mut self, count: usize, is_whole: bool)
+        ensures { IsSent self.old self.new }
+    {
+        let Stage::Writing(_, written) = &mut self.stage else {
+            return;
+        };
+        if !is_whole {
+            *written = written.saturating_add(count);
+        } else if self.is_last {
+            self.stage = Stage::Over;
+        } else {
+            self.stage = Stage::Reading;
+        }
+    }
+
+    /// Reads what came. The answer is whether the connection is still there.
+    fn read<W: Wires>(&mut self, wires: &mut W, buffer: &mut [u8]) -> bool
+        ensures over { IsOver self.old.stage → (self.new ≡ self.old) × (wires.new ≡ wires.old) }
+        ensures came { OnTrue result (IsRead self.old self.new) }
+    {
+        if let Stage::Over = self.stage {
+            return false;
+        }
+        match wires.read(self.place, buffer) {
+            Ok(ReadTurn::Got(count)) => {
+                let Some(came) = buffer.get(..count) else {
+                    return false;
+                };
+                self.is_fresh = true;
+                self.came.extend_from_slice(came).is_ok()
+            }
+            Ok(ReadTurn::Nothing) => true,
+            Ok(ReadTurn::Ended) | Err(WireFault) => false,
+        }
+    }
+
+    /// Takes off the octets of a request that is whole.
+    fn take_off(&mut self, extent: usize) -> Result<(), AllocError>
+        ensures { OnOk result (IsTakenOff extent self.old self.new) }
+    {
+        let end = extent.min(self.came.len());
+        let rest = self.came.split_off(end)?;
+        self.came = rest;
+        self.is_fresh = !self.came.is_empty();
+        self.is_continued = false;
+        self.awaits_body = false;
+        self.since = None;
+        Ok(())
+    }
+
+    // Takes the answer to the request that stands at the front of what came.
+    fn take(&mut self, answer: Answer, notes: &mut Notes) -> Result<(), AllocError>
+        ensures { (now : Option Instant)
+            → OnOk result (Takes now (RequestOutcome.Answer answer) self.old self.new) }
+    {
+        self.take_off(answer.extent)?;
+        self.is_last = answer.is_last;
+        self.words = answer.words;
+        self.begun = notes.now();
+        match answer.given {
+            Given::Response(written) => {
+                notes.tell(self.peer, self.words.as_str(), self.begun, written.status)?;
+                self.put(written.octets);
+            }
+            Given::Question(question) => self.stage = Stage::Waiting(question),
+        }
+        Ok(())
+    }
+
+    // Waits for the body of its request, from now on or since before.
+    fn await_body(&mut self, now: Option<Instant>)
+        ensures { self.new ≡ awaiting_body now (seen self.old) }
+    {
+        self.is_fresh = false;
+        if !self.awaits_body {
+            self.awaits_body = true;
+            self.since = now;
+        }
+    }
+
+    // Tells the client to go on, once.
+    fn go_on(&mut self, alloc: Global, now: Option<Instant>) -> Result<(), AllocError>
+        ensures { OnOk result (Takes now RequestOutcome.GoOn self.old self.new) }
+    {
+        self.await_body(now);
+        if self.is_continued {
+            return Ok(());
+        }
+        self.is_continued = true;
+        self.put(Vec::from_slice(alloc, CONTINUE)?);
+        Ok(())
+    }
+
+    // Takes up what came, where a request is read and there is something new.
+    fn take_up(
+        &mut self,
+        state: &HttpState,
+        notes: &mut Notes,
+        now: Option<Instant>,
+    ) -> Result<(), AllocError>
+        ensures { OnOk result (TakesUp state.now.guard now self.old self.new) }
+    {
+        if !self.is_fresh || !matches!(self.stage, Stage::Reading) {
+            return Ok(());
+        }
+        match state.outcome_for(self.came.as_slice(), notes.date())? {
+            RequestOutcome::AwaitHead => self.is_fresh = false,
+            RequestOutcome::AwaitBody => self.await_body(now),
+            RequestOutcome::GoOn => self.go_on(state.alloc, now)?,
+            RequestOutcome::Refuse(words, written) => {
+                let begun = notes.now();
+                notes.tell(self.peer, words.as_str(), begun, written.status)?;
+                self.is_fresh = false;
+                self.is_last = true;
+                self.put(written.octets);
+            }
+            RequestOutcome::Answer(answer) => self.take(answer, notes)?,
+        }
+        Ok(())
+    }
+
+    // A response is written, or what comes is read. The answer is whether the connection is still there.
+    fn moves<W: Wires>(&mut self, wires: &mut W, buffer: &mut [u8]) -> bool
+        ensures { OnTrue result (Moves self.old.stage self.old self.new) }
+    {
+        match self.stage {
+            Stage::Writing(..) => self.write(wires),
+            Stage::Reading if self.is_fresh => true,
+            Stage::Reading => self.read(wires, buffer),
+            Stage::Waiting(_) => true,
+            Stage::Over => false,
+        }
+    }
+
+    // The first octets of a request have come.
+    fn begin_wait(&mut self, now: Option<Instant>)
+        ensures { self.new ≡ begun_wait now self.old }
+    {
+        if self.since.is_none() && !self.came.is_empty() {
+            self.since = now;
+        }
+    }
+
+    // Whether the head or the body that it waits for has not come in the time that it has.
+    fn is_late(&self, now: Option<Instant>) -> bool
+        ensures { result ≡ is_late now self.now }
+    {
+        let seconds = if self.awaits_body {
+            BODY_SECONDS
+        } else {
+            HEAD_SECONDS
+        };
+        match (now, self.since) {
+            (Some(now), Some(since)) => {
+                matches!(self.stage, Stage::Reading)
+                    && now.duration_since(since) >= Duration::from_secs(seconds)
+            }
+            _ => false,
+        }
+    }
+
+    // Refuses a request that is late.
+    fn refuse_late(&mut self, state: &HttpState, notes: &mut Notes) -> Result<(), AllocError>
+        ensures { OnOk result (IsRefusedLate self.old self.new) }
+    {
+        let words = state.words_of_begun(self.came.as_slice())?;
+        let written = state.too_late(notes.date())?;
+        notes.tell(self.peer, words.as_str(), self.since, written.status)?;
+        self.is_fresh = false;
+        self.is_last = true;
+        self.put(written.octets);
+        Ok(())
+    }
+
+    // Takes up what came, or refuses what is late.
+    fn take_or_refuse(
+        &mut self,
+        state: &HttpState,
+        notes: &mut Notes,
+        now: Option<Instant>,
+    ) -> Result<(), AllocError>
+        ensures { OnOk result (TakesOrRefuses state.now.guard now self.old self.new) }
+    {
+        if self.is_late(now) {
+            self.refuse_late(state, notes)
+        } else {
+            self.take_up(state, notes, now)
+        }
+    }
+
+    /// Its turn at an instant: a response is written, or what comes is read, and taken up, unless it is
+    /// late. The answer is whether the connection is still there: one on which nothing has come in the
+    /// time that a head has is not.
+    pub fn turn<W: Wires>(
+        &mut self,
+        wires: &mut W,
+        buffer: &mut [u8],
+        state: &HttpState,
+        notes: &mut Notes,
+        now: Option<Instant>,
+    ) -> bool
+        ensures { OnTrue result (Turns state.now.guard now self.old self.new) }
+    {
+        if !self.moves(wires, buffer) {
+            return false;
+        }
+        if self.is_late(now) && self.came.is_empty() {
+            return false;
+        }
+        self.begin_wait(now);
+        matches!(self.take_or_refuse(state, notes, now), Ok(()))
+    }
+}

@@ -1,0 +1,167 @@
+//! The web front over wires.
+ghost use Rattle.std.specs.Prelude.{◌≡◌, [], option_copied, IfOk};
+ghost use Rattle.std.specs.List.{list_any};
+ghost use Rattle.dq_http.specs.HttpConnections.{asks_report, is_busy};
+ghost use Rattle.dq_http.specs.RequestQueue.{first_waiting, next_of, Answered, LetsIn, Attended};
+
+use crate::http_connection::HttpConnection;
+use crate::http_state::HttpState;
+use crate::request_log::Notes;
+use dq_request::{Request, Response};
+use dq_web::Counters;
+use dq_wires::{GivesUp, READ_MOST, Wires};
+use std::alloc::AllocError;
+use std::time::Instant;
+
+/// The most connections at a time.
+const MOST_CONNECTIONS: usize = 64;
+
+/// Connections of HTTP over wires, and what they ask. They stand in the order in which they are
+/// answered: the first whose request waits is the next, and then it is the last.
+#[derive(Drop)]
+pub struct HttpServer<W> {
+    pub wires: W,
+    state: HttpState,
+    notes: Notes,
+    connections: Vec<HttpConnection>,
+    buffer: Vec<u8>,
+}
+
+impl<W: Wires + GivesUp + Drop> HttpServer<W> {
+    /// Creates a server over wires.
+    pub fn new(rt: &HostRuntime, wires: W, state: HttpState) -> Result<Self, AllocError>
+        ensures wires { IfOk result (λ server. server.wires ≡ wires) }
+        ensures state { IfOk result (λ server. server.state ≡ state) }
+        ensures connections { IfOk result (λ server. server.connections.items ≡ []) }
+    {
+        let alloc = state.alloc;
+        let mut buffer = Vec::new(alloc);
+        buffer.resize(READ_MOST, 0)?;
+        Ok(HttpServer {
+            wires,
+            state,
+            notes: Notes::new(alloc, rt),
+            connections: Vec::new(alloc),
+            buffer,
+        })
+    }
+
+    // Where the first connection stands whose request waits.
+    fn first_waiting(&self) -> Option<usize>
+        ensures { result ≡ first_waiting self.now.connections.items }
+    {
+        self.connections
+            .iter()
+            .position(|connection| connection.is_waiting())
+    }
+
+    /// The request that is to be answered next, if one waits.
+    pub fn next(&self) -> Option<&Request>
+        ensures { option_copied result ≡ next_of self.now }
+    {
+        let at = self.first_waiting()?;
+        self.connections.get(at)?.asked()
+    }
+
+    /// Answers the request that waits first. Its connection is then the last to be answered, and all
+    /// others are as they were.
+    pub fn answer(&mut self, response: &Response)
+        ensures { Answered self.old self.new response.now }
+    {
+        let Some(at) = self.first_waiting() else {
+            return;
+        };
+        if let Some(connection) = self.connections.get_mut(at) {
+            connection.answer(response, &self.state, &mut self.notes);
+            self.connections.rotate_left(at + 1);
+        }
+    }
+
+    /// Whether a request waits that asks for metrics.
+    pub fn wants_counts(&self) -> bool
+        ensures { result ≡ list_any asks_report self.now.connections.items }
+    {
+        self.connections
+            .iter()
+            .any(|connection| connection.wants_counts())
+    }
+
+    /// Takes the counts of what was served until now.
+    pub fn set_counters(&mut self, counters: Counters)
+        ensures { self.new ≡ record self.old { state = record self.old.state { counters = counters } } }
+    {
+        self.state.set_counters(counters);
+    }
+
+    /// Returns the notes of the requests since this was last asked, a line each.
+    pub fn take_notes(&mut self) -> String
+        ensures taken { result ≡ self.old.notes.lines }
+        ensures connections { self.new.connections.items ≡ self.old.connections.items }
+        ensures wires { self.new.wires ≡ self.old.wires }
+    {
+        self.notes.take()
+    }
+
+    /// Whether there is something to do that no octet has to come for.
+    pub fn is_busy(&self) -> bool
+        ensures { result ≡ list_any is_busy self.now.connections.items }
+    {
+        self.connections
+            .iter()
+            .any(|connection| connection.is_busy())
+    }
+
+    /// The turn of all connections: those that come are let in, responses are written, and requests
+    /// are read. A connection that fails, or for which there is no memory, is let go.
+    pub fn attend(&mut self)
+        ensures { Attended self.old self.new }
+    {
+        let now = self.notes.now();
+        self.let_in(now);
+        let mut at = 0;
+        while at < self.connections.len() {
+            let connection = &mut self.connections[at];
+            let place = connection.place;
+            let buffer = self.buffer.as_mut_slice();
+            if connection.turn(&mut self.wires, buffer, &self.state, &mut self.notes, now) {
+                at += 1;
+            } else {
+                let _ = self.connections.remove(at);
+                let _ = self.wires.shut(place);
+            }
+        }
+    }
+
+    // Lets a connection in that came. One for which there is no memory is let go.
+    #[tactic(auto, using(crate::proofs::HttpTurns::lets_none, crate::proofs::HttpTurns::lets_one))]
+    fn admit(&mut self, place: usize, now: Option<Instant>)
+        ensures came { LetsIn self.old.connections.items self.new.connections.items }
+        ensures state { self.new.state ≡ self.old.state }
+    {
+        let peer = self.wires.peer(place);
+        match self
+            .connections
+            .push(HttpConnection::new(self.state.alloc, place, peer, now))
+        {
+            Ok(()) => {}
+            Err(_) => {
+                let _ = self.wires.shut(place);
+            }
+        }
+    }
+
+    // Lets those in that come, as long as there is room.
+    #[tactic(auto, using(crate::proofs::HttpTurns::lets_none))]
+    fn let_in(&mut self, now: Option<Instant>)
+        ensures came { LetsIn self.old.connections.items self.new.connections.items }
+        ensures state { self.new.state ≡ self.old.state }
+    {
+        for _connection in self.connections.len()..MOST_CONNECTIONS {
+            let Ok(Some(place)) = self.wires.accept() else {
+                self.notes.turn_away(self.wires.turned_away());
+                return;
+            };
+            self.admit(place, now);
+        }
+    }
+}

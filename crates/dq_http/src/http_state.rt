@@ -1,0 +1,231 @@
+//! What is done for the octets that came of a connection.
+ghost use Rattle.std.specs.Prelude.{◌≡◌, ℕ, List, map, IfOk};
+ghost use Rattle.dq_web.specs.Answers.{IsReplyTo, IsResponse};
+ghost use Rattle.dq_web.specs.Requests.{IsCutOff, IsRequest};
+ghost use Rattle.dq_web.specs.declared.cutting.Cut.TheVariants as cut;
+ghost use Rattle.dq_http.specs.RequestOutcomes.{IsGiven, IsAnswer, IsOutcome, IsTooLate};
+ghost use Rattle.dq_http.specs.InstitutionLimits.{limits_of};
+
+use crate::request_log::{UNREADABLE, words_of};
+use dq_config::Institution;
+use dq_list::Listed;
+use dq_request::Response;
+use dq_web::{
+    Counters, Cut, Framing, Guard, Head, HttpRequest, ParsedRequest, Question, Refusal, Written,
+    answered, ask, cut_off, document, healthy, judge, misspelled, refused,
+};
+use httpdate::HttpDate;
+use std::alloc::{AllocError, Global};
+
+/// What is done for the octets that came of a connection.
+#[derive(Drop)]
+pub(crate) enum RequestOutcome {
+    /// Nothing yet: a head is not whole.
+    AwaitHead,
+    /// Nothing yet: a head is let in, and its body has not come.
+    AwaitBody,
+    /// The client, whose head is let in, is told to go on.
+    GoOn,
+    /// A response is written, and nothing comes after it: the words of the request in the log, and it.
+    Refuse(String, Written),
+    /// A request of this extent is answered, the last one if that is said.
+    Answer(Answer),
+}
+
+/// A request that is whole: its words in the log, its extent, whether it is the last one, and its
+/// response, or what it asks of the server.
+#[derive(Drop)]
+pub(crate) struct Answer {
+    pub words: String,
+    pub extent: usize,
+    pub is_last: bool,
+    pub given: Given,
+}
+
+#[derive(Drop)]
+pub(crate) enum Given {
+    Response(Written),
+    Question(Question),
+}
+
+/// What requests are answered by: the keys and the hosts, the names and limits of institutions, and
+/// the counts of what was served.
+#[derive(Drop)]
+pub struct HttpState {
+    pub(crate) alloc: Global,
+    guard: Guard,
+    institutions: Vec<Institution>,
+    counters: Counters,
+}
+
+/// What counts here of an institution: its name and its limits.
+fn limits_of(alloc: Global, institution: &Institution) -> Result<Institution, AllocError>
+    ensures { IfOk result (λ known. known ≡ limits_of institution.now) }
+{
+    Ok(Institution {
+        name: Listed::copy_of(alloc, institution.name.as_slice())?,
+        routes: Listed::empty(alloc),
+        studies: institution.studies,
+        images: institution.images,
+        entries: institution.entries,
+        steps: institution.steps,
+        associations: institution.associations,
+    })
+}
+
+impl HttpState {
+    /// Creates the state for institutions, behind a guard.
+    pub fn new(
+        alloc: Global,
+        guard: Guard,
+        institutions: &[Institution],
+    ) -> Result<Self, AllocError>
+        ensures guard { IfOk result (λ state. state.guard ≡ guard) }
+        ensures limits { IfOk result (λ state.
+            state.institutions.items ≡ map limits_of institutions.now) }
+    {
+        let mut known = Vec::new(alloc);
+        for institution in institutions {
+            known.push(limits_of(alloc, institution)?)?;
+        }
+        Ok(HttpState {
+            alloc,
+            guard,
+            institutions: known,
+            counters: Counters::default(),
+        })
+    }
+
+    /// Takes the counts of what was served until now.
+    pub(crate) fn set_counters(&mut self, counters: Counters)
+        ensures { self.new ≡ record self.old { counters = counters } }
+    {
+        self.counters = counters;
+    }
+
+    /// What is done for octets that came, at a time.
+    pub(crate) fn outcome_for(
+        &self,
+        came: &[u8],
+        date: Option<HttpDate>,
+    ) -> Result<RequestOutcome, AllocError>
+        ensures { IfOk result (IsOutcome self.now.guard came.now) }
+    {
+        match cut_off(came) {
+            Cut::Unfinished => Ok(RequestOutcome::AwaitHead),
+            Cut::Begun(head) => self.outcome_for_head(&head, date),
+            Cut::Refused(refusal) => {
+                let framing = Framing {
+                    is_last: true,
+                    is_head: false,
+                    date,
+                };
+                let words = String::from_str(self.alloc, UNREADABLE)?;
+                Ok(RequestOutcome::Refuse(words, refused(self.alloc, refusal, framing)?))
+            }
+            Cut::Whole(request) => Ok(RequestOutcome::Answer(self.answer_to(&request, date)?)),
+        }
+    }
+
+    /// What is done for a head whose body has not come.
+    fn outcome_for_head(
+        &self,
+        head: &Head<'_>,
+        date: Option<HttpDate>,
+    ) -> Result<RequestOutcome, AllocError>
+        ensures { (came : List ℕ) → IsCutOff came (cut.Begun head.now)
+            → IfOk result (IsOutcome self.now.guard came) }
+    {
+        let framing = Framing {
+            is_last: true,
+            is_head: head.is_head(),
+            date,
+        };
+        match judge(self.alloc, &self.guard, head)? {
+            Some(refusal) => {
+                let words = words_of(self.alloc, head)?;
+                Ok(RequestOutcome::Refuse(words, refused(self.alloc, refusal, framing)?))
+            }
+            None if head.is_expecting() => Ok(RequestOutcome::GoOn),
+            None => Ok(RequestOutcome::AwaitBody),
+        }
+    }
+
+    /// The response to a request that did not come in the time that it has.
+    pub(crate) fn too_late(&self, date: Option<HttpDate>) -> Result<Written, AllocError>
+        ensures { IfOk result (IsTooLate) }
+    {
+        let framing = Framing {
+            is_last: true,
+            is_head: false,
+            date,
+        };
+        refused(self.alloc, Refusal::Time, framing)
+    }
+
+    /// The words in the log of a request that has not come whole.
+    pub(crate) fn words_of_begun(&self, came: &[u8]) -> Result<String, AllocError> {
+        match cut_off(came) {
+            Cut::Begun(head) => words_of(self.alloc, &head),
+            _ => String::from_str(self.alloc, UNREADABLE),
+        }
+    }
+
+    /// What a request is given.
+    fn given_for(&self, request: &HttpRequest<'_>, framing: Framing) -> Result<Given, AllocError>
+        ensures { IfOk result (IsGiven self.now.guard request.now framing) }
+    {
+        let alloc = self.alloc;
+        match ask(alloc, &self.guard, request)? {
+            ParsedRequest::Refused(refusal) => Ok(Given::Response(refused(
+                alloc, refusal, framing,
+            )?)),
+            ParsedRequest::Misspelled(word) => {
+                Ok(Given::Response(misspelled(alloc, word.as_str(), framing)?))
+            }
+            ParsedRequest::Document(which) => Ok(Given::Response(document(alloc, which, framing)?)),
+            ParsedRequest::Health => Ok(Given::Response(healthy(alloc, framing)?)),
+            ParsedRequest::Question(mut question) => {
+                question.framing = framing;
+                Ok(Given::Question(question))
+            }
+        }
+    }
+
+    /// The answer to a request that is whole.
+    fn answer_to(
+        &self,
+        request: &HttpRequest<'_>,
+        date: Option<HttpDate>,
+    ) -> Result<Answer, AllocError>
+        ensures { (came : List ℕ) → IsRequest came request.now
+            → IfOk result (IsAnswer self.now.guard came) }
+    {
+        let is_last = request.head.is_last;
+        let framing = Framing {
+            is_last,
+            is_head: request.head.is_head(),
+            date,
+        };
+        let words = words_of(self.alloc, &request.head)?;
+        Ok(Answer {
+            words,
+            extent: request.extent,
+            is_last,
+            given: self.given_for(request, framing)?,
+        })
+    }
+
+    /// The response of HTTP to a question that is answered so.
+    pub(crate) fn response_to(
+        &self,
+        question: &Question,
+        response: &Response,
+    ) -> Result<Written, AllocError>
+        ensures { IfOk result (IsResponse (IsReplyTo question.now response.now
+            self.now.institutions.items) question.now.framing) }
+    {
+        let institutions = self.institutions.as_slice();
+        answered(self.alloc, question, response, institutions, &self.counters)
+    }
+}

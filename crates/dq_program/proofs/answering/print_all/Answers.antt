@@ -1,7 +1,0 @@
-use Rattle.std.proofs.Common.{rules}
-use Rattle.dq_captures.specs.Printing.{reply_lines}
-use Rattle.dq_program.proofs.Cutting.{AppendsPart-unflushed}
-use Rattle.dq_program.proofs.answering.print_all.Goals as goal
-
-pub returns-then-is_err-2-clause-cut : goal.returns-then-is_err-2-clause-cut
-returns-then-is_err-2-clause-cut g c = AppendsPart-unflushed _ _ _ (reply_lines c.args.replies.now) (search rules) c.finish.ensures.written

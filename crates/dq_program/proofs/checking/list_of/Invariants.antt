@@ -1,6 +1,0 @@
-use Rattle.std.proofs.Common.{◌≡◌, take}
-use Rattle.dq_program.specs.Checks.{check_text}
-use Rattle.dq_program.proofs.checking.list_of.Given as goal
-
-abbrev pub invariant-loop-institution : goal.invariant-loop-institution
-invariant-loop-institution l = l.text.items ≡ check_text (take l.institution-index l.institutions)

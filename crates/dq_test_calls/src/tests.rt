@@ -1,0 +1,11 @@
+mod assemblers;
+mod choices;
+mod data_sets;
+mod dictionary;
+mod matching;
+mod messages;
+mod sieves;
+mod stores;
+mod tables;
+mod values;
+mod web_requests;

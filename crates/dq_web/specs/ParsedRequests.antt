@@ -1,0 +1,347 @@
+-- What requests of HTTP ask of the server.
+use Rattle.std.specs.Prelude.{◌≡◌, ◌⊎◌, ◌==◌, ℕ, ◌++◌, ◌&&◌, ◌||◌, not, nat_le, Bool, true, false, IsTrue, List, [], ◌∷◌, length, filter, codes, string_bytes, Option, Some, is_some, option_copied}
+use Rattle.std.specs.List.{list_all, list_any, slice_split, starts_with}
+use Rattle.std.specs.Option.{option_and_then}
+use Rattle.std.specs.Str.{bytes_eq}
+use Rattle.percent_encoding.specs.Percent.{percent_decode}
+use Rattle.dq_vr.specs.declared.Tag.{Tag}
+use Rattle.dq_vr.specs.declared.tags.TheConstants.{STUDY_INSTANCE_UID, SERIES_INSTANCE_UID}
+use Rattle.dq_vr.specs.Dictionary.{known_vr}
+use Rattle.dq_json.specs.Keywords.{tag_named}
+use Rattle.dq_request.specs.declared.request.Request.{Request}
+use Rattle.dq_request.specs.declared.request.Request.TheVariants as ask
+use Rattle.dq_request.specs.declared.search.Key.{Key}
+use Rattle.dq_request.specs.declared.search.Search.{Search}
+use Rattle.dq_request.specs.declared.search.Subject.{Subject}
+use Rattle.dq_request.specs.declared.search.Subject.TheVariants as subject
+use Rattle.dq_request.specs.Searches.{TakesWords, StopsAt, name_in}
+use Rattle.dq_web.specs.declared.cutting.Fields.{Fields}
+use Rattle.dq_web.specs.declared.cutting.Head.{Head}
+use Rattle.dq_web.specs.declared.cutting.HttpRequest.{HttpRequest}
+use Rattle.dq_web.specs.declared.guard.Guard.{Guard}
+use Rattle.dq_web.specs.declared.resource.Resource.{Resource}
+use Rattle.dq_web.specs.declared.resource.Resource.TheVariants.{Page, Style, Script, Health, Metrics, Backup, Counts, Studies, Series, Images, Unsearched, Worklist, Entry, Steps}
+use Rattle.dq_web.specs.declared.parsed_request.Aim.{Aim}
+use Rattle.dq_web.specs.declared.parsed_request.ParsedRequest.{ParsedRequest}
+use Rattle.dq_web.specs.declared.parsed_request.ParsedRequest.TheVariants as asked
+use Rattle.dq_web.specs.declared.parsed_request.Document.{Document}
+use Rattle.dq_web.specs.declared.parsed_request.Document.TheVariants as document
+use Rattle.dq_web.specs.declared.parsed_request.Method.{Method}
+use Rattle.dq_web.specs.declared.parsed_request.Method.TheVariants.{Get, Post, Delete, Other}
+use Rattle.dq_web.specs.declared.parsed_request.Method.TheVariants as method
+use Rattle.dq_web.specs.declared.parsed_request.Question.{Question}
+use Rattle.dq_web.specs.declared.parsed_request.Wanted.{Wanted}
+use Rattle.dq_web.specs.declared.parsed_request.Wanted.TheVariants as wanted
+use Rattle.dq_web.specs.declared.parsed_request.Wish.{Wish}
+use Rattle.dq_web.specs.Guards.{IsAdmitted, IsOpened}
+use Rattle.dq_web.specs.Resources.{IsPath, beneath}
+
+-- no space, no control and nothing past ASCII: 21H to 7EH
+abbrev pub is_visible : ℕ → Bool
+is_visible octet = nat_le 0x21 octet && nat_le octet 0x7E
+
+-- no control character
+abbrev pub is_printable : ℕ → Bool
+is_printable octet = nat_le 0x20 octet && not (octet == 0x7F)
+
+-- A path, and a query where one is given: of a target in origin-form, whose host is that of the field Host;
+-- or of one in absolute-form, which has the host itself (RFC 9112 sections 3.2.1 and 3.2.2).
+abbrev pub IsPathAndQuery : List ℕ → List ℕ → List ℕ → Type 0
+IsPathAndQuery text path query =
+    ((text ≡ path) × (query ≡ [])) ⊎ (text ≡ path ++ (codes "?" ++ query))
+
+abbrev pub IsTarget : List ℕ → Option (List ℕ) → List ℕ → List ℕ → Type 0
+IsTarget target field host text = ((target ≡ text) × (field ≡ Some host))
+    ⊎ ((target ≡ codes "http://" ++ (host ++ text)) ⊎ (target ≡ codes "https://" ++ (host ++ text)))
+
+-- the methods that are served (RFC 9110 section 9.3)
+abbrev pub IsMethod : List ℕ → Method → Type 0
+IsMethod text Get = text ≡ codes "GET"
+IsMethod text method.Head = text ≡ codes "HEAD"
+IsMethod text Post = text ≡ codes "POST"
+IsMethod text Delete = text ≡ codes "DELETE"
+IsMethod text Other = Unit {0}
+
+-- whose key opens a resource: an institution's, or the operator's
+abbrev pub owner_of : Resource → List ℕ
+owner_of (Counts name) = name.now
+owner_of (Studies name) = name.now
+owner_of (Series name study) = name.now
+owner_of (Images name study series) = name.now
+owner_of (Unsearched name) = name.now
+owner_of (Worklist name) = name.now
+owner_of (Entry name id) = name.now
+owner_of (Steps name) = name.now
+owner_of resource = codes "*"
+
+-- ---- searches
+
+-- a part of a query that asks for no search (PS3.18 section 8.3.4): all attributes are answered, and no matching
+-- is fuzzy
+abbrev pub is_silent : List ℕ → Bool
+is_silent part = (length part == 0) || starts_with ◌==◌ part (codes "includefield=")
+    || starts_with ◌==◌ part (codes "fuzzymatching=")
+
+-- it names an attribute of the dictionary
+abbrev pub is_attribute : List ℕ → Bool
+is_attribute name = is_some (option_and_then known_vr (tag_named name))
+
+-- it names neither an attribute nor the page
+abbrev pub is_unknown : List ℕ → Bool
+is_unknown part = not (is_silent part) && not (bytes_eq (name_in part) (codes "limit"))
+    && not (bytes_eq (name_in part) (codes "offset")) && not (is_attribute (name_in part))
+
+-- a part that no search comes of; one that is unknown is passed over, and the response says so
+abbrev pub is_left_out : List ℕ → Bool
+is_left_out part = is_silent part || is_unknown part
+
+-- the parts of a query
+abbrev pub parts_of : List ℕ → List (List ℕ)
+parts_of query = slice_split (λ octet. octet == 38) query
+
+abbrev pub is_said : List ℕ → Bool
+is_said part = not (is_left_out part)
+
+-- those of some parts that are words of a search
+abbrev pub words_among : List (List ℕ) → List (List ℕ)
+words_among parts = filter is_said parts
+
+abbrev pub words_in : List ℕ → List (List ℕ)
+words_in query = words_among (parts_of query)
+
+-- a UID that stands in a path (PS3.18 section 10.6.1.1), as a key
+abbrev pub uid_key : Tag → List ℕ → Key
+uid_key tag text = record { tag = tag; value = percent_decode text }
+
+-- a search of what an institution keeps, a hundred at a time
+abbrev pub hundred_of : Subject → List ℕ → List Key → Search
+hundred_of subject name keys =
+    record { subject = subject; institution = name; keys = keys; page = record { offset = 0; limit = 100 } }
+
+-- the search of the series of a study
+abbrev pub series_of : List ℕ → List ℕ → Search
+series_of name study = hundred_of subject.Series name (uid_key STUDY_INSTANCE_UID study ∷ [])
+
+-- the search of the images of a series
+abbrev pub images_of : List ℕ → List ℕ → List ℕ → Search
+images_of name study series = hundred_of subject.Images name
+    (uid_key STUDY_INSTANCE_UID study ∷ (uid_key SERIES_INSTANCE_UID series ∷ []))
+
+-- The search at a path, before its query says more (PS3.18 section 10.6.1). The UIDs of the path are its first keys,
+-- and of an attribute's keys the first counts.
+abbrev pub IsSearchAt : Resource → Search → Type 0
+IsSearchAt (Studies name) search = search ≡ hundred_of subject.Studies name.now []
+IsSearchAt (Series name study) search = search ≡ series_of name.now study.now
+IsSearchAt (Images name study series) search = search ≡ images_of name.now study.now series.now
+IsSearchAt (Worklist name) search = search ≡ hundred_of subject.Worklist name.now []
+IsSearchAt (Steps name) search = search ≡ hundred_of subject.Steps name.now []
+IsSearchAt resource search = ⊥
+
+-- ---- requests
+
+-- GET asks for the search of the path and the query
+abbrev pub Searching : Resource → List ℕ → Request → Type 0
+Searching resource query (ask.Search search) =
+    (start : Search) × IsSearchAt resource start × TakesWords (words_in query) start search
+Searching resource query request = ⊥
+
+-- what GET asks of a resource
+abbrev pub Looking : Resource → List ℕ → Request → Type 0
+Looking (Counts name) query request = request ≡ ask.Counts name.now
+Looking Metrics query request = request ≡ ask.Report
+Looking resource query request = Searching resource query request
+
+-- a path of a file, without control characters
+abbrev pub IsBackup : List ℕ → Request → Type 0
+IsBackup body (ask.Backup path) = (string_bytes path ≡ body) × IsTrue (list_all is_printable body)
+IsBackup body request = ⊥
+
+-- what POST asks of a resource
+abbrev pub Posting : Resource → List ℕ → Request → Type 0
+Posting (Worklist name) body request = request ≡ ask.Schedule name.now body
+Posting Backup body request = IsBackup body request
+Posting resource body request = ⊥
+
+-- what DELETE asks of a resource
+abbrev pub Deleting : Resource → Request → Type 0
+Deleting (Entry name id) request = request ≡ ask.Withdraw name.now (percent_decode id.now)
+Deleting resource request = ⊥
+
+abbrev pub Asks : Method → Resource → List ℕ → List ℕ → Request → Type 0
+Asks Get resource query body request = Looking resource query request
+Asks method.Head resource query body request = Looking resource query request
+Asks Post resource query body request = Posting resource body request
+Asks Delete resource query body request = Deleting resource request
+Asks Other resource query body request = ⊥
+
+-- what a search found is answered as JSON, which is accepted (RFC 9110 section 12.5.1)
+abbrev pub IsAccepted : Request → Fields → Type 0
+IsAccepted (ask.Search search) fields = IsTrue fields.accepts_json
+IsAccepted request fields = Unit {0}
+
+-- this part of a query is the first that is no word of the search which the path and the parts before it say
+abbrev pub IsMisspelledAt : Resource → List ℕ → List ℕ → Type 0
+IsMisspelledAt resource query part =
+    (start : Search) × IsSearchAt resource start × StopsAt part (words_in query) start
+
+-- what GET comes to
+abbrev pub IsLooked : Resource → Fields → List ℕ → Wanted → Type 0
+IsLooked resource fields query (wanted.Request request) = Looking resource query request × IsAccepted request fields
+IsLooked resource fields query (wanted.Misspelled part) = IsMisspelledAt resource query (string_bytes part)
+
+abbrev pub IsGet : Method → Type 0
+IsGet Get = Unit {0}
+IsGet method.Head = Unit {0}
+IsGet by = ⊥
+
+-- what a head and a body come to
+abbrev pub IsWanted : Aim → Fields → List ℕ → Wanted → Type 0
+IsWanted aim fields body (wanted.Request request) =
+    Asks aim.method aim.resource aim.query.now body request × IsAccepted request fields
+IsWanted aim fields body (wanted.Misspelled part) =
+    IsGet aim.method × IsMisspelledAt aim.resource aim.query.now (string_bytes part)
+
+-- whose key opens a request: that of the institution which it names, or the operator's
+abbrev pub owner_of_request : Request → List ℕ
+owner_of_request (ask.Search search) = search.institution
+owner_of_request (ask.Counts name) = name
+owner_of_request ask.Report = codes "*"
+owner_of_request (ask.Schedule institution octets) = institution
+owner_of_request (ask.Withdraw institution id) = institution
+owner_of_request (ask.Backup path) = codes "*"
+
+-- ---- who may ask
+
+abbrev pub has_no_slash : ℕ → Bool
+has_no_slash octet = not (octet == 47)
+
+-- A segment of a path names itself: decoded, it is not the dot segments, by which a path goes up, and it has no
+-- slash, of which others may know nothing (RFC 3986 sections 3.3 and 6.2.2).
+abbrev pub is_plain : List ℕ → Bool
+is_plain segment = not (bytes_eq segment (codes ".") || bytes_eq segment (codes ".."))
+    && list_all has_no_slash segment
+
+abbrev pub is_plain_segment : List ℕ → Bool
+is_plain_segment segment = is_plain (percent_decode segment)
+
+-- each segment of a path does
+abbrev pub is_plain_path : List ℕ → Bool
+is_plain_path path = list_all is_plain_segment (slice_split (λ octet. octet == 47) path)
+
+abbrev pub is_page : Resource → Bool
+is_page Page = true
+is_page resource = false
+
+-- A head is let in as it aims: for a host of the front and from no page of another origin, at a path whose
+-- segments are plain, by a method. A head of HTTP/1.1 has a Host (RFC 9112 section 3.2).
+pub record IsLetIn (guard : Guard) (head : Head) (aim : Aim) : Type 0 where
+  pub host : List ℕ
+  pub text : List ℕ
+  pub path : List ℕ
+  pub named : IsTrue (head.is_old || is_some (option_copied head.fields.host))
+  pub visible : IsTrue (list_all is_visible head.target.now)
+  pub target : IsTarget head.target.now (option_copied head.fields.host) host text
+  pub split : IsPathAndQuery text path aim.query.now
+  pub plain : IsTrue (is_plain_path path)
+  pub at_resource : IsPath path aim.resource
+  pub by_method : IsMethod head.method.now aim.method
+  pub admitted : IsAdmitted guard.host host (is_page aim.resource) head.fields
+
+-- what everybody may see
+abbrev pub is_open : Resource → Bool
+is_open Page = true
+is_open Style = true
+is_open Script = true
+is_open Health = true
+is_open resource = false
+
+-- a head is let in, and the resource is open to all, or the key opens it
+abbrev pub IsJudged : Guard → Head → Type 0
+IsJudged guard head = (aim : Aim) × IsLetIn guard head aim
+    × (IsTrue (is_open aim.resource) ⊎ IsOpened guard.keys (owner_of aim.resource) (option_copied head.fields.authorization))
+
+-- a part of a query asks for fuzzy matching (PS3.18 section 8.3.4.2)
+abbrev pub is_fuzzy : List ℕ → Bool
+is_fuzzy part = bytes_eq part (codes "fuzzymatching=true")
+
+-- how the answers to a search are wanted: where none is found an empty array, in place of no content, where
+-- DICOM JSON is asked for by its name; whether fuzzy matching is; and whether a parameter is unknown
+abbrev pub wish_of : Fields → List ℕ → Wish
+wish_of fields query = record {
+  wants_array = fields.asks_dicom_json;
+  is_fuzzy = list_any is_fuzzy (parts_of query);
+  has_unknown = list_any is_unknown (parts_of query);
+}
+
+-- A request of HTTP asks a question: it is let in, its key opens the resource, its path, method, query and body say what
+-- is asked, and JSON is accepted where a search is.
+pub record IsQuestion (guard : Guard) (request : HttpRequest) (question : Question) : Type 0 where
+  pub aim : Aim
+  pub let_in : IsLetIn guard request.head aim
+  pub opened : IsOpened guard.keys (owner_of aim.resource) (option_copied request.head.fields.authorization)
+  pub asks : Asks aim.method aim.resource aim.query.now request.body.now question.asked
+  pub wish : question.wish ≡ wish_of request.head.fields aim.query.now
+  pub accepted : IsAccepted question.asked request.head.fields
+
+-- A part of the query is no word of the search that the path and the parts before say.
+pub record IsMisspelled (guard : Guard) (request : HttpRequest) (word : List ℕ) : Type 0 where
+  pub aim : Aim
+  pub let_in : IsLetIn guard request.head aim
+  pub opened : IsOpened guard.keys (owner_of aim.resource) (option_copied request.head.fields.authorization)
+  pub by_get : IsGet aim.method
+  pub at : IsMisspelledAt aim.resource aim.query.now word
+
+-- where a document of the page stands
+abbrev pub document_resource : Document → Resource
+document_resource document.Page = Page
+document_resource document.Style = Style
+document_resource document.Script = Script
+
+-- what is done for a request of HTTP
+abbrev pub IsAsked : Guard → HttpRequest → ParsedRequest → Type 0
+IsAsked guard request (asked.Question question) = IsQuestion guard request question
+IsAsked guard request (asked.Refused refusal) = Unit {0}
+IsAsked guard request (asked.Misspelled word) = IsMisspelled guard request (string_bytes word)
+IsAsked guard request (asked.Document document) =
+    (aim : Aim) × IsLetIn guard request.head aim × (aim.resource ≡ document_resource document)
+IsAsked guard request asked.Health = (aim : Aim) × IsLetIn guard request.head aim × (aim.resource ≡ Health)
+
+-- ---- laws
+
+-- it changes nothing
+abbrev pub IsLook : Request → Type 0
+IsLook (ask.Search search) = Unit {0}
+IsLook (ask.Counts name) = Unit {0}
+IsLook ask.Report = Unit {0}
+IsLook request = ⊥
+
+-- a request of HTTP has this path
+abbrev pub IsAtPath : HttpRequest → List ℕ → Type 0
+IsAtPath request path = (host : List ℕ) × (text : List ℕ) × (query : List ℕ)
+    × IsTarget request.head.target.now (option_copied request.head.fields.host) host text
+    × IsPathAndQuery text path query
+
+-- a request of HTTP of this method at this path
+abbrev pub IsCall : HttpRequest → List ℕ → List ℕ → Type 0
+IsCall request word path = IsAtPath request path × (request.head.method.now ≡ word)
+
+-- POST of a body at the worklist of an institution, which is to be scheduled there
+abbrev pub IsScheduling : HttpRequest → List ℕ → List ℕ → Type 0
+IsScheduling request institution octets =
+    IsCall request (codes "POST") (codes "/" ++ beneath institution (codes "worklist"))
+    × (octets ≡ request.body.now)
+
+-- DELETE of an entry of that worklist, which is to be taken away there
+abbrev pub IsWithdrawing : HttpRequest → List ℕ → List ℕ → Type 0
+IsWithdrawing request institution id = (text : List ℕ)
+    × IsCall request (codes "DELETE") (codes "/" ++ beneath institution (codes "worklist/" ++ text))
+    × (id ≡ percent_decode text)
+
+-- POST of a path, to which all rows are to be copied
+abbrev pub IsBackingUp : HttpRequest → List ℕ → Type 0
+IsBackingUp request path = IsCall request (codes "POST") (codes "/backup") × (path ≡ request.body.now)
+
+-- a path below an institution's name
+abbrev pub IsBelow : HttpRequest → List ℕ → Type 0
+IsBelow request institution =
+    (rest : List ℕ) × IsAtPath request (codes "/" ++ beneath institution rest)

@@ -1,0 +1,685 @@
+//! What requests of HTTP ask of the server.
+ghost use Rattle.std.specs.Prelude.{◌≡◌, ◌==◌, ◌++◌, ◌∷◌, [], ◌||◌, codes, Some, IsTrue, IfOk, OnOk, IfNone, MatchOption, MatchBool, is_some, option_copied};
+ghost use Rattle.std.specs.List.{list_all, list_any, starts_with};
+ghost use Rattle.std.specs.Str.{bytes_eq};
+ghost use Rattle.percent_encoding.specs.Percent.{percent_decode};
+ghost use Rattle.dq_request.specs.Searches.{TakesWords, StopsAt, name_in};
+ghost use Rattle.dq_web.specs.ParsedRequests.{is_visible, is_printable, is_silent, is_attribute, is_unknown, is_left_out, parts_of, words_among, words_in, uid_key, hundred_of, series_of, images_of, IsSearchAt, owner_of, IsPathAndQuery, IsTarget, IsMethod, IsLooked, IsBackup, Posting, Deleting, IsWanted, has_no_slash, is_plain_segment, is_plain_path, is_page, IsLetIn, IsJudged, is_fuzzy, wish_of, IsAsked};
+
+use crate::cutting::{Fields, Head, HttpRequest};
+use crate::guard::Guard;
+use crate::keys::OPERATOR;
+use crate::refusal::{Allowed, Refusal};
+use crate::replies::Framing;
+use crate::resource::{Resource, at_slash, behind, resource_of};
+use dq_json::tag_named;
+use dq_list::Listed;
+use dq_request::{Request, Search, Subject};
+use dq_vr::{Tag, lookup, tags};
+use percent_encoding::percent_decode;
+use std::alloc::{AllocError, Global};
+
+/// The most that a search shows where its query says no limit.
+const LIMIT: usize = 100;
+
+/// How the answers to a search are wanted.
+#[derive(Clone, Copy, Debug, PartialEq, Eq)]
+pub struct Wish {
+    /// Whether an empty array is wanted where none is found, in place of no content.
+    pub wants_array: bool,
+    /// Whether matching is to be fuzzy, which none is.
+    pub is_fuzzy: bool,
+    /// Whether a parameter is unknown, and was passed over.
+    pub has_unknown: bool,
+}
+
+/// What is asked of the server, and how its response is sent back.
+#[derive(Debug, Drop)]
+pub struct Question {
+    pub asked: Request,
+    pub wish: Wish,
+    /// How its response is framed. Whoever holds the connection says so.
+    pub framing: Framing,
+}
+
+/// A document of the page for people.
+#[derive(Clone, Copy, Debug, PartialEq, Eq)]
+pub enum Document {
+    Page,
+    Style,
+    Script,
+}
+
+/// What is done for a request.
+#[derive(Debug, Drop)]
+pub enum ParsedRequest {
+    Refused(Refusal),
+    /// A part of its query is no word of a search.
+    Misspelled(String),
+    Document(Document),
+    Health,
+    Question(Question),
+}
+
+/// The method of a request, as far as it counts here.
+#[derive(Clone, Copy, PartialEq, Eq)]
+pub enum Method {
+    Get,
+    Head,
+    Post,
+    Delete,
+    Other,
+}
+
+/// What a head aims at: a resource, a method, and the query behind the path.
+#[derive(Clone, Copy)]
+pub struct Aim<'a> {
+    pub resource: Resource<'a>,
+    pub method: Method,
+    pub query: &'a str,
+}
+
+/// What a path, a method, a query and a body come to.
+#[derive(Drop)]
+enum Wanted {
+    Request(Request),
+    /// The part of the query that is no word of the search.
+    Misspelled(String),
+}
+
+/// Why nothing is asked.
+enum Unasked {
+    Refused(Refusal),
+    NoMemory,
+}
+
+impl From<AllocError> for Unasked {
+    fn from(_error: AllocError) -> Unasked {
+        Unasked::NoMemory
+    }
+}
+
+impl From<Refusal> for Unasked {
+    fn from(refusal: Refusal) -> Unasked {
+        Unasked::Refused(refusal)
+    }
+}
+
+fn is_visible(octet: u8) -> bool
+    ensures { result ≡ is_visible octet }
+{
+    0x21 <= octet && octet <= 0x7e
+}
+
+fn are_visible(octets: &[u8]) -> bool
+    ensures { result ≡ list_all is_visible octets.now }
+{
+    octets.iter().all(|octet| is_visible(*octet))
+}
+
+fn is_printable(octet: u8) -> bool
+    ensures { result ≡ is_printable octet }
+{
+    0x20 <= octet && octet != 0x7f
+}
+
+fn are_printable(octets: &[u8]) -> bool
+    ensures { result ≡ list_all is_printable octets.now }
+{
+    octets.iter().all(|octet| is_printable(*octet))
+}
+
+/// The text of a target, where it has no octet but visible ones.
+fn target_text(octets: &[u8]) -> Result<&str, Refusal>
+    ensures { IfOk result (λ text. (text.now ≡ octets.now)
+        × IsTrue (list_all is_visible octets.now)) }
+{
+    if !are_visible(octets) {
+        return Err(Refusal::Request);
+    }
+    match str::from_utf8(octets) {
+        Ok(text) => Ok(text),
+        Err(_) => Err(Refusal::Request),
+    }
+}
+
+/// The path of a target, and its query.
+fn path_and_query(text: &str) -> (&str, &str)
+    ensures { IsPathAndQuery text.now result.0.now result.1.now }
+{
+    match text.split_once('?') {
+        Some(parts) => parts,
+        None => (text, ""),
+    }
+}
+
+/// The host of an absolute-form behind its scheme, and the path and query behind that.
+fn at_path(text: &str) -> Result<(&str, &str), Refusal>
+    ensures { IfOk result (λ parts. text.now ≡ parts.0.now ++ parts.1.now) }
+{
+    let Some((host, _)) = at_slash(text) else {
+        return Err(Refusal::Path);
+    };
+    match behind(text, host) {
+        Some(path) => Ok((host, path)),
+        None => Err(Refusal::Path),
+    }
+}
+
+/// The text of the field Host.
+fn host_in(field: Option<&[u8]>) -> Result<&str, Refusal>
+    ensures { IfOk result (λ host. option_copied field.entry ≡ Some host.now) }
+{
+    let Some(octets) = field else {
+        return Err(Refusal::Host);
+    };
+    match str::from_utf8(octets) {
+        Ok(host) => Ok(host),
+        Err(_) => Err(Refusal::Host),
+    }
+}
+
+/// The host of a target, and its path and query.
+fn host_and_path<'a>(
+    target: &'a str,
+    field: Option<&'a [u8]>,
+) -> Result<(&'a str, &'a str), Refusal>
+    ensures { IfOk result (λ parts. IsTarget target.now (option_copied field.entry)
+        parts.0.now parts.1.now) }
+{
+    if let Some(rest) = behind(target, "http://") {
+        return at_path(rest);
+    }
+    if let Some(rest) = behind(target, "https://") {
+        return at_path(rest);
+    }
+    Ok((host_in(field)?, target))
+}
+
+/// Whether a segment is one of those by which a path goes nowhere or up.
+fn is_dots(segment: &[u8]) -> bool
+    ensures { result ≡ (bytes_eq segment.now (codes ".") || bytes_eq segment.now (codes "..")) }
+{
+    segment == b".".as_slice() || segment == b"..".as_slice()
+}
+
+fn has_no_slash(segment: &[u8]) -> bool
+    ensures { result ≡ list_all has_no_slash segment.now }
+{
+    segment.iter().all(|octet| *octet != b'/')
+}
+
+/// Whether a segment, with its octets decoded, names itself.
+fn is_plain_segment(alloc: Global, segment: &str) -> Result<bool, AllocError>
+    ensures { IfOk result (λ is_plain. is_plain ≡ is_plain_segment segment.now) }
+{
+    let mut octets = Vec::new(alloc);
+    percent_decode(segment.as_bytes()).append_to(&mut octets)?;
+    Ok(!is_dots(octets.as_slice()) && has_no_slash(octets.as_slice()))
+}
+
+/// Whether each segment of a path does.
+fn is_plain_path(alloc: Global, path: &str) -> Result<bool, AllocError>
+    ensures { IfOk result (λ is_plain. is_plain ≡ is_plain_path path.now) }
+{
+    let mut are_plain = true;
+    for segment in path.split('/') {
+        let is_plain = is_plain_segment(alloc, segment)?;
+        are_plain = are_plain && is_plain;
+    }
+    Ok(are_plain)
+}
+
+fn method_of(method: &[u8]) -> Method
+    ensures { IsMethod method.now result }
+{
+    let Ok(method) = str::from_utf8(method) else {
+        return Method::Other;
+    };
+    match method {
+        "GET" => Method::Get,
+        "HEAD" => Method::Head,
+        "POST" => Method::Post,
+        "DELETE" => Method::Delete,
+        _ => Method::Other,
+    }
+}
+
+/// The methods of what stands at a path.
+fn allowed_at(resource: Resource<'_>) -> Result<Allowed, Refusal> {
+    match resource {
+        Resource::Nowhere => Err(Refusal::Path),
+        Resource::Backup => Ok(Allowed::Post),
+        Resource::Entry(..) => Ok(Allowed::Delete),
+        Resource::Worklist(_) => Ok(Allowed::GetAndPost),
+        _ => Ok(Allowed::Get),
+    }
+}
+
+/// Refuses a path where nothing stands, and a method that is not of what stands there.
+fn check_method(resource: Resource<'_>, method: Method) -> Result<(), Refusal> {
+    let allowed = allowed_at(resource)?;
+    let is_allowed = match method {
+        Method::Get | Method::Head => { allowed == Allowed::Get || allowed == Allowed::GetAndPost }
+        Method::Post => allowed == Allowed::Post || allowed == Allowed::GetAndPost,
+        Method::Delete => allowed == Allowed::Delete,
+        Method::Other => false,
+    };
+    if is_allowed {
+        Ok(())
+    } else {
+        Err(Refusal::Method(allowed))
+    }
+}
+
+/// Whose key opens a resource: an institution's, or the operator's.
+fn owner_of<'a>(resource: Resource<'a>) -> &'a [u8]
+    ensures { result.now ≡ owner_of resource.entry }
+{
+    match resource {
+        Resource::Counts(name)
+        | Resource::Studies(name)
+        | Resource::Series(name, _)
+        | Resource::Images(name, _, _)
+        | Resource::Unsearched(name)
+        | Resource::Worklist(name)
+        | Resource::Entry(name, _)
+        | Resource::Steps(name) => name.as_bytes(),
+        _ => OPERATOR,
+    }
+}
+
+pub(crate) fn begins(text: &str, word: &str) -> bool
+    ensures { result ≡ starts_with ◌==◌ text.now word.now }
+{
+    text.starts_with(word)
+}
+
+/// Whether a part of a query asks for no search: it is empty, or it says which attributes are asked
+/// for, since all are answered, or that matching is fuzzy, which none is.
+fn is_silent(part: &str) -> bool
+    ensures { result ≡ is_silent part.now }
+{
+    part.is_empty() || begins(part, "includefield=") || begins(part, "fuzzymatching=")
+}
+
+/// The name of a part of a query, before the first equals sign.
+fn name_in(part: &str) -> &str
+    ensures { result.now ≡ name_in part.now }
+{
+    match part.split_once('=') {
+        Some((name, _)) => name,
+        None => part,
+    }
+}
+
+fn is_attribute(name: &str) -> bool
+    ensures { result ≡ is_attribute name.now }
+{
+    match tag_named(name) {
+        Some(tag) => lookup(tag).is_some(),
+        None => false,
+    }
+}
+
+/// Whether a part of a query names neither an attribute nor the page.
+fn is_unknown(part: &str) -> bool
+    ensures { result ≡ is_unknown part.now }
+{
+    let name = name_in(part);
+    !is_silent(part) && name != "limit" && name != "offset" && !is_attribute(name)
+}
+
+fn is_left_out(part: &str) -> bool
+    ensures { result ≡ is_left_out part.now }
+{
+    is_silent(part) || is_unknown(part)
+}
+
+/// Takes a part of a query as a word of a search, unless it is left out. The answer is whether
+/// the search goes on.
+fn take_part(alloc: Global, search: &mut Search, part: &str) -> Result<bool, AllocError>
+    ensures { IfOk result (λ is_taken. MatchBool is_taken
+        (TakesWords (words_among (part.now ∷ [])) search.old search.new)
+        (StopsAt part.now (words_among (part.now ∷ [])) search.old)) }
+{
+    if is_left_out(part) {
+        return Ok(true);
+    }
+    search.take_word(alloc, part)
+}
+
+/// Takes the parts of a query as words of a search. The answer is the first that is none, if there
+/// is one.
+fn take_parts<'a>(
+    alloc: Global,
+    search: &mut Search,
+    query: &'a str,
+) -> Result<Option<&'a str>, AllocError>
+    ensures { IfOk result (λ refused. MatchOption refused
+        (TakesWords (words_in query.now) search.old search.new)
+        (λ part. StopsAt part.now (words_in query.now) search.old)) }
+{
+    for part in query.split('&') {
+        if !take_part(alloc, search, part)? {
+            return Ok(Some(part));
+        }
+    }
+    Ok(None)
+}
+
+fn is_fuzzy(part: &str) -> bool
+    ensures { result ≡ is_fuzzy part.now }
+{
+    part == "fuzzymatching=true"
+}
+
+/// Whether a query asks for fuzzy matching.
+fn asks_fuzzy(query: &str) -> bool
+    ensures { result ≡ list_any is_fuzzy (parts_of query.now) }
+{
+    let mut is_asked = false;
+    for part in query.split('&') {
+        is_asked = is_asked || is_fuzzy(part);
+    }
+    is_asked
+}
+
+/// Whether a query has a parameter that is unknown.
+fn has_unknown(query: &str) -> bool
+    ensures { result ≡ list_any is_unknown (parts_of query.now) }
+{
+    let mut is_found = false;
+    for part in query.split('&') {
+        is_found = is_found || is_unknown(part);
+    }
+    is_found
+}
+
+/// How the answers to a search are wanted.
+fn wish_of(fields: &Fields<'_>, query: &str) -> Wish
+    ensures { result ≡ wish_of fields.now query.now }
+{
+    Wish {
+        wants_array: fields.asks_dicom_json,
+        is_fuzzy: asks_fuzzy(query),
+        has_unknown: has_unknown(query),
+    }
+}
+
+/// A search of what an institution keeps.
+fn search_of(alloc: Global, subject: Subject, name: &str) -> Result<Search, AllocError>
+    ensures { IfOk result (λ search. search ≡ hundred_of subject name.now []) }
+{
+    let institution = Listed::copy_of(alloc, name.as_bytes())?;
+    Ok(Search::new(alloc, subject, institution, LIMIT))
+}
+
+/// Gives a search a UID that stands in the path.
+fn put_uid(alloc: Global, search: &mut Search, tag: Tag, text: &str) -> Result<(), Unasked>
+    ensures { OnOk result (search.new ≡ record search.old {
+      keys = search.old.keys ++ uid_key tag text.now ∷ [];
+    }) }
+{
+    if search.take_value(alloc, tag, text)? {
+        Ok(())
+    } else {
+        Err(Unasked::Refused(Refusal::Request))
+    }
+}
+
+/// The search of the series of a study.
+fn series_of(alloc: Global, name: &str, study: &str) -> Result<Search, Unasked>
+    ensures { IfOk result (λ search. search ≡ series_of name.now study.now) }
+{
+    let mut search = search_of(alloc, Subject::Series, name)?;
+    put_uid(alloc, &mut search, tags::STUDY_INSTANCE_UID, study)?;
+    Ok(search)
+}
+
+/// The search of the images of a series.
+fn images_of(alloc: Global, name: &str, study: &str, series: &str) -> Result<Search, Unasked>
+    ensures { IfOk result (λ search. search ≡ images_of name.now study.now series.now) }
+{
+    let mut search = search_of(alloc, Subject::Images, name)?;
+    put_uid(alloc, &mut search, tags::STUDY_INSTANCE_UID, study)?;
+    put_uid(alloc, &mut search, tags::SERIES_INSTANCE_UID, series)?;
+    Ok(search)
+}
+
+/// The search at a path, before its query says more.
+fn search_at(alloc: Global, resource: Resource<'_>) -> Result<Search, Unasked>
+    ensures { IfOk result (IsSearchAt resource.entry) }
+{
+    match resource {
+        Resource::Studies(name) => Ok(search_of(alloc, Subject::Studies, name)?),
+        Resource::Series(name, study) => series_of(alloc, name, study),
+        Resource::Images(name, study, series) => images_of(alloc, name, study, series),
+        Resource::Worklist(name) => Ok(search_of(alloc, Subject::Worklist, name)?),
+        Resource::Steps(name) => Ok(search_of(alloc, Subject::Steps, name)?),
+        Resource::Unsearched(_) => Err(Unasked::Refused(Refusal::Unsupported)),
+        _ => Err(Unasked::Refused(Refusal::Path)),
+    }
+}
+
+/// Refuses a search whose answers are in no form that is accepted.
+fn check_accept(fields: &Fields<'_>) -> Result<(), Refusal>
+    ensures { OnOk result (IsTrue fields.now.accepts_json) }
+{
+    if fields.accepts_json {
+        Ok(())
+    } else {
+        Err(Refusal::Accept)
+    }
+}
+
+/// What GET asks.
+fn look_at(
+    alloc: Global,
+    resource: Resource<'_>,
+    fields: &Fields<'_>,
+    query: &str,
+) -> Result<Wanted, Unasked>
+    ensures { IfOk result (IsLooked resource.entry fields.now query.now) }
+{
+    if let Resource::Counts(name) = resource {
+        let name = Listed::copy_of(alloc, name.as_bytes())?;
+        return Ok(Wanted::Request(Request::Counts(name)));
+    }
+    if let Resource::Metrics = resource {
+        return Ok(Wanted::Request(Request::Report));
+    }
+    let mut search = search_at(alloc, resource)?;
+    check_accept(fields)?;
+    match take_parts(alloc, &mut search, query)? {
+        None => Ok(Wanted::Request(Request::Search(search))),
+        Some(part) => Ok(Wanted::Misspelled(String::from_str(alloc, part)?)),
+    }
+}
+
+/// An order to copy all rows to a path.
+fn back_up(alloc: Global, path: &[u8]) -> Result<Request, Unasked>
+    ensures { IfOk result (IsBackup path.now) }
+{
+    if path.is_empty() || !are_printable(path) {
+        return Err(Unasked::Refused(Refusal::Request));
+    }
+    match str::from_utf8(path) {
+        Ok(path) => Ok(Request::Backup(String::from_str(alloc, path)?)),
+        Err(_) => Err(Unasked::Refused(Refusal::Request)),
+    }
+}
+
+/// What POST asks.
+fn post_at(alloc: Global, resource: Resource<'_>, body: &[u8]) -> Result<Request, Unasked>
+    ensures { IfOk result (Posting resource.entry body.now) }
+{
+    match resource {
+        Resource::Worklist(name) => Ok(Request::Schedule {
+            institution: Listed::copy_of(alloc, name.as_bytes())?,
+            octets: Listed::copy_of(alloc, body)?,
+        }),
+        Resource::Backup => back_up(alloc, body),
+        _ => Err(Unasked::Refused(Refusal::Path)),
+    }
+}
+
+/// What DELETE asks.
+fn delete_at(alloc: Global, resource: Resource<'_>) -> Result<Request, Unasked>
+    ensures { IfOk result (Deleting resource.entry) }
+{
+    let Resource::Entry(name, id) = resource else {
+        return Err(Unasked::Refused(Refusal::Path));
+    };
+    let mut octets = Vec::new(alloc);
+    percent_decode(id.as_bytes()).append_to(&mut octets)?;
+    Ok(Request::Withdraw {
+        institution: Listed::copy_of(alloc, name.as_bytes())?,
+        id: Listed::from_inner(octets),
+    })
+}
+
+/// What a head and a body ask.
+fn wanted_by(
+    alloc: Global,
+    aim: Aim<'_>,
+    fields: &Fields<'_>,
+    body: &[u8],
+) -> Result<Wanted, Unasked>
+    ensures { IfOk result (IsWanted aim.entry fields.now body.now) }
+{
+    match aim.method {
+        Method::Get | Method::Head => look_at(alloc, aim.resource, fields, aim.query),
+        Method::Post => Ok(Wanted::Request(post_at(alloc, aim.resource, body)?)),
+        Method::Delete => Ok(Wanted::Request(delete_at(alloc, aim.resource)?)),
+        Method::Other => Err(Unasked::Refused(Refusal::Path)),
+    }
+}
+
+fn is_page(resource: Resource<'_>) -> bool
+    ensures { result ≡ is_page resource.entry }
+{
+    matches!(resource, Resource::Page)
+}
+
+/// Refuses a head of HTTP/1.1 that names no host (RFC 9112 section 3.2).
+fn check_host(head: &Head<'_>) -> Result<(), Refusal>
+    ensures { OnOk result (IsTrue (head.now.is_old || is_some (option_copied head.now.fields.host))) }
+{
+    if head.is_old || head.fields.host.is_some() {
+        Ok(())
+    } else {
+        Err(Refusal::Request)
+    }
+}
+
+/// Refuses a path with a segment that does not name itself.
+fn check_path(alloc: Global, path: &str) -> Result<(), Unasked>
+    ensures { OnOk result (IsTrue (is_plain_path path.now)) }
+{
+    if is_plain_path(alloc, path)? {
+        Ok(())
+    } else {
+        Err(Unasked::Refused(Refusal::Request))
+    }
+}
+
+/// What a head aims at, if it is let in.
+fn let_in<'a>(alloc: Global, guard: &Guard, head: &Head<'a>) -> Result<Aim<'a>, Unasked>
+    ensures { IfOk result (IsLetIn guard.now head.now) }
+{
+    check_host(head)?;
+    let (host, text) = host_and_path(target_text(head.target)?, head.fields.host)?;
+    let (path, query) = path_and_query(text);
+    check_path(alloc, path)?;
+    let resource = resource_of(path);
+    guard.admit(host, is_page(resource), &head.fields)?;
+    let method = method_of(head.method);
+    check_method(resource, method)?;
+    Ok(Aim {
+        resource,
+        method,
+        query,
+    })
+}
+
+/// A question, before its framing is known.
+fn question_of(asked: Request, wish: Wish) -> Question
+    ensures asked { result.asked ≡ asked }
+    ensures wish { result.wish ≡ wish }
+{
+    Question {
+        asked,
+        wish,
+        framing: Framing {
+            is_last: false,
+            is_head: false,
+            date: None,
+        },
+    }
+}
+
+/// What is done for a request, or why nothing is.
+fn answer_for(
+    alloc: Global,
+    guard: &Guard,
+    request: &HttpRequest<'_>,
+) -> Result<ParsedRequest, Unasked>
+    ensures { IfOk result (IsAsked guard.now request.now) }
+{
+    let aim = let_in(alloc, guard, &request.head)?;
+    match aim.resource {
+        Resource::Page => Ok(ParsedRequest::Document(Document::Page)),
+        Resource::Style => Ok(ParsedRequest::Document(Document::Style)),
+        Resource::Script => Ok(ParsedRequest::Document(Document::Script)),
+        Resource::Health => Ok(ParsedRequest::Health),
+        _ => {
+            guard.open(owner_of(aim.resource), request.head.fields.authorization)?;
+            match wanted_by(alloc, aim, &request.head.fields, request.body)? {
+                Wanted::Request(asked) => {
+                    let wish = wish_of(&request.head.fields, aim.query);
+                    Ok(ParsedRequest::Question(question_of(asked, wish)))
+                }
+                Wanted::Misspelled(word) => Ok(ParsedRequest::Misspelled(word)),
+            }
+        }
+    }
+}
+
+/// What a request asks of the server, what else answers it, or why it is refused: a host that is not
+/// the front's, a page of another origin, a path, a method, or a key that does not open the path.
+pub fn ask(
+    alloc: Global,
+    guard: &Guard,
+    request: &HttpRequest<'_>,
+) -> Result<ParsedRequest, AllocError>
+    ensures { IfOk result (IsAsked guard.now request.now) }
+{
+    match answer_for(alloc, guard, request) {
+        Ok(asked) => Ok(asked),
+        Err(Unasked::Refused(refusal)) => Ok(ParsedRequest::Refused(refusal)),
+        Err(Unasked::NoMemory) => Err(AllocError),
+    }
+}
+
+/// Refuses a head that is not let in, or whose key does not open the resource.
+fn check_head(alloc: Global, guard: &Guard, head: &Head<'_>) -> Result<(), Unasked>
+    ensures { OnOk result (IsJudged guard.now head.now) }
+{
+    let aim = let_in(alloc, guard, head)?;
+    match aim.resource {
+        Resource::Page | Resource::Style | Resource::Script | Resource::Health => Ok(()),
+        _ => Ok(guard.open(owner_of(aim.resource), head.fields.authorization)?),
+    }
+}
+
+/// Why a request is refused by its head, before its body has come, if it is.
+pub fn judge(alloc: Global, guard: &Guard, head: &Head<'_>) -> Result<Option<Refusal>, AllocError>
+    ensures { IfOk result (λ refusal. IfNone refusal (IsJudged guard.now head.now)) }
+{
+    match check_head(alloc, guard, head) {
+        Ok(()) => Ok(None),
+        Err(Unasked::Refused(refusal)) => Ok(Some(refusal)),
+        Err(Unasked::NoMemory) => Err(AllocError),
+    }
+}

@@ -1,0 +1,108 @@
+//! What a path names.
+ghost use Rattle.std.specs.Prelude.{◌≡◌, ◌++◌, codes, IfSome};
+ghost use Rattle.dq_web.specs.Resources.{IsPath, IsPathBelow, IsPathOfStudies};
+
+/// What stands at a path. Of a request only the path names an institution.
+#[derive(Clone, Copy)]
+pub enum Resource<'a> {
+    Page,
+    Style,
+    Script,
+    Health,
+    Metrics,
+    Backup,
+    Counts(&'a str),
+    Studies(&'a str),
+    Series(&'a str, &'a str),
+    Images(&'a str, &'a str, &'a str),
+    /// The series or the images of all studies, which are not searched.
+    Unsearched(&'a str),
+    Worklist(&'a str),
+    Entry(&'a str, &'a str),
+    Steps(&'a str),
+    Nowhere,
+}
+
+/// What stands before the first slash, and what behind it.
+pub(crate) fn at_slash(text: &str) -> Option<(&str, &str)>
+    ensures { IfSome result (λ parts. text.now ≡ parts.0.now ++ codes "/" ++ parts.1.now) }
+{
+    match text.split_once('/') {
+        Some(parts) => Some(parts),
+        None => None,
+    }
+}
+
+/// What stands behind a word at the front of a text.
+pub(crate) fn behind<'a>(text: &'a str, word: &str) -> Option<&'a str>
+    ensures { IfSome result (λ rest. text.now ≡ word.now ++ rest.now) }
+{
+    text.strip_prefix(word)
+}
+
+/// The resource of what is below a study, by what stands behind the words of its studies.
+fn resource_in_study<'a>(institution: &'a str, rest: &'a str) -> Resource<'a>
+    ensures { IsPathOfStudies institution.now rest.now result }
+{
+    let Some((study, rest)) = at_slash(rest) else {
+        return Resource::Nowhere;
+    };
+    if rest == "series" {
+        return Resource::Series(institution, study);
+    }
+    let Some(rest) = behind(rest, "series/") else {
+        return Resource::Nowhere;
+    };
+    let Some((series, rest)) = at_slash(rest) else {
+        return Resource::Nowhere;
+    };
+    if rest == "instances" {
+        Resource::Images(institution, study, series)
+    } else {
+        Resource::Nowhere
+    }
+}
+
+/// The resource of an institution, by what stands behind its name.
+fn resource_of_institution<'a>(institution: &'a str, rest: &'a str) -> Resource<'a>
+    ensures { IsPathBelow institution.now rest.now result }
+{
+    match rest {
+        "counts" => return Resource::Counts(institution),
+        "worklist" => return Resource::Worklist(institution),
+        "steps" => return Resource::Steps(institution),
+        "rs/studies" => return Resource::Studies(institution),
+        "rs/series" | "rs/instances" => return Resource::Unsearched(institution),
+        _ => {}
+    }
+    if let Some(id) = behind(rest, "worklist/") {
+        return Resource::Entry(institution, id);
+    }
+    match behind(rest, "rs/studies/") {
+        Some(rest) => resource_in_study(institution, rest),
+        None => Resource::Nowhere,
+    }
+}
+
+/// What stands at a path.
+pub fn resource_of(path: &str) -> Resource<'_>
+    ensures { IsPath path.now result }
+{
+    match path {
+        "/" => return Resource::Page,
+        "/page.css" => return Resource::Style,
+        "/page.js" => return Resource::Script,
+        "/health" => return Resource::Health,
+        "/metrics" => return Resource::Metrics,
+        "/backup" => return Resource::Backup,
+        _ => {}
+    }
+    let Some(rest) = behind(path, "/") else {
+        return Resource::Nowhere;
+    };
+    match at_slash(rest) {
+        // (the operator's name is no institution's)
+        Some(("*", _)) | None => Resource::Nowhere,
+        Some((institution, rest)) => resource_of_institution(institution, rest),
+    }
+}

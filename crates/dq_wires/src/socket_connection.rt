@@ -1,0 +1,370 @@
+//! A connection over a socket, and when it is given up.
+ghost use Rattle.std.specs.Prelude.{◌≤◌, length, IfOk};
+ghost use Rattle.dq_wires.specs.Logs.{IfGot};
+
+use crate::calls::{ReadTurn, WireFault};
+use crate::given_up::{GivenUp, Limits, Reason};
+use crate::socket::Socket;
+use crate::titles::Titles;
+use mio::event::Event;
+use std::io::ErrorKind;
+use std::net::SocketAddr;
+use std::time::Duration;
+
+/// The PDUs after which the server sends no other (PS3.8 section 9.2).
+const LAST_PDUS: [u8; 3] = [A_ASSOCIATE_RJ, A_RELEASE_RP, A_ABORT];
+
+const A_ASSOCIATE_RJ: u8 = 0x03;
+
+const A_RELEASE_RP: u8 = 0x06;
+
+const A_ABORT: u8 = 0x07;
+
+/// A PDU's type, a reserved octet and the length of its body (PS3.8 section 9.3.1).
+const HEADER: usize = 6;
+
+/// Where the PDUs begin that are answered, however their octets are cut (PS3.8 section 9.3.1): the
+/// octets of a header that is not whole, how many they are, and how many of a body are to come.
+#[derive(Clone, Copy)]
+struct Headers {
+    header: u64,
+    came: usize,
+    left: usize,
+}
+
+impl Headers {
+    const NONE: Headers = Headers {
+        header: 0,
+        came: 0,
+        left: 0,
+    };
+
+    // Lets octets pass. The answer is whether the header of a last PDU ends among them.
+    fn pass(&mut self, octets: &[u8]) -> bool {
+        let mut rest = octets;
+        let mut is_last = false;
+        for _ in 0..octets.len() {
+            let Some((first, others)) = rest.split_first() else {
+                return is_last;
+            };
+            if self.left > 0 {
+                let count = rest.len().min(self.left);
+                self.left -= count;
+                rest = &rest[count..];
+            } else {
+                is_last = self.take(*first) || is_last;
+                rest = others;
+            }
+        }
+        is_last
+    }
+
+    // Takes an octet of a header. The answer is whether it ends that of a last PDU.
+    fn take(&mut self, octet: u8) -> bool {
+        self.header = self.header << 8 | u64::from(octet);
+        self.came = self.came.saturating_add(1);
+        if self.came < HEADER {
+            return false;
+        }
+        self.came = 0;
+        let [_, _, kind, _, a, b, c, d] = self.header.to_be_bytes();
+        self.left = u32::from_be_bytes([a, b, c, d]) as usize;
+        LAST_PDUS.contains(&kind)
+    }
+}
+
+/// How far a connection is.
+#[derive(Clone, Copy, PartialEq, Eq)]
+enum Stage {
+    /// Nothing was answered: no A-ASSOCIATE-RQ has come whole.
+    Unasked,
+    /// The same, and the ARTIM timer had run out when it was last read.
+    Overdue,
+    /// Something was answered.
+    Open,
+    /// The last PDU was answered.
+    Closing,
+}
+
+/// What the system may have for a connection.
+#[derive(Clone, Copy)]
+struct Readiness {
+    is_readable: bool,
+    is_writable: bool,
+    /// Whether the peer sends no more, or the connection broke.
+    is_ending: bool,
+}
+
+/// What a connection has of the reads that it shares with others of the same titles.
+#[derive(Clone, Copy)]
+struct Share {
+    /// Its titles, if the first octets that came on it have them.
+    titles: Option<Titles>,
+    /// Whether it was read since the turn began.
+    is_read: bool,
+    /// How often another was read in its place since it was read last.
+    passed_over: u64,
+}
+
+/// A connection: its socket and its peer's address, what the system may have for it, its share of
+/// the reads, whether octets came and whether some wait to be sent, since when no octet has passed,
+/// how far it is and since when, where the PDUs begin that are answered, how many octets that wait
+/// were looked at for that, and why it was given up, if it was.
+#[derive(Drop)]
+pub(crate) struct SocketConnection {
+    socket: Socket,
+    peer: Option<SocketAddr>,
+    ready: Readiness,
+    share: Share,
+    is_begun: bool,
+    is_sending: bool,
+    silence: Duration,
+    stage: Stage,
+    waited: Duration,
+    headers: Headers,
+    looked_at: usize,
+    reason: Option<Reason>,
+}
+
+impl SocketConnection {
+    /// One that has just come.
+    pub(crate) fn new(socket: Socket, peer: Option<SocketAddr>) -> Self {
+        SocketConnection {
+            socket,
+            peer,
+            ready: Readiness {
+                is_readable: true,
+                is_writable: true,
+                is_ending: false,
+            },
+            share: Share {
+                titles: None,
+                is_read: false,
+                passed_over: 0,
+            },
+            is_begun: false,
+            is_sending: false,
+            silence: Duration::ZERO,
+            stage: Stage::Unasked,
+            waited: Duration::ZERO,
+            headers: Headers::NONE,
+            looked_at: 0,
+            reason: None,
+        }
+    }
+
+    /// Its peer's address.
+    pub(crate) fn peer(&self) -> Option<SocketAddr> {
+        self.peer
+    }
+
+    /// Its end, if it was given up.
+    pub(crate) fn given_up(&self) -> Option<GivenUp> {
+        let reason = self.reason?;
+        Some(GivenUp {
+            peer: self.peer,
+            reason,
+        })
+    }
+
+    /// Whether its peer has the same address as another.
+    pub(crate) fn is_of(&self, peer: SocketAddr) -> bool {
+        match self.peer {
+            Some(own) => own.ip() == peer.ip(),
+            None => false,
+        }
+    }
+
+    /// Takes what the system tells of the connection. Whatever that is, writing is tried.
+    pub(crate) fn wake(&mut self, event: &Event) {
+        if event.is_read_closed() || event.is_error() {
+            self.ready.is_ending = true;
+        }
+        if event.is_readable() || self.ready.is_ending {
+            self.ready.is_readable = true;
+        }
+        self.ready.is_writable = true;
+    }
+
+    /// Begins a turn, in which it was not read yet.
+    pub(crate) fn begin_turn(&mut self) {
+        self.share.is_read = false;
+    }
+
+    /// Whether octets may be read, and none wait to be sent.
+    pub(crate) fn is_waiting(&self) -> bool {
+        self.ready.is_readable && !self.is_sending
+    }
+
+    /// Whether another leaves its read to it: both have the same titles, or told none yet, and it was
+    /// passed over more often, or where reads have taken long was read already.
+    pub(crate) fn goes_before(&self, other: &SocketConnection, is_long: bool) -> bool {
+        self.share.titles == other.share.titles
+            && (is_long && self.share.is_read
+                || self.is_waiting() && self.share.passed_over > other.share.passed_over)
+    }
+
+    /// Notes that it leaves its read to another.
+    pub(crate) fn give_way(&mut self) {
+        self.share.passed_over = self.share.passed_over.saturating_add(1);
+    }
+
+    /// Time has passed.
+    pub(crate) fn grow_old(&mut self, time: Duration) {
+        self.silence = self.silence.saturating_add(time);
+        self.waited = self.waited.saturating_add(time);
+    }
+
+    // Whether the ARTIM timer runs, and has run out (PS3.8 section 9.1.5).
+    fn is_late(&self, limits: &Limits) -> bool {
+        match limits.artim {
+            Some(artim) => self.stage != Stage::Open && self.waited >= artim,
+            None => false,
+        }
+    }
+
+    // Whether it is given up, now that nothing came or went on it.
+    fn is_over(&mut self, limits: &Limits) -> bool {
+        if self.is_late(limits) {
+            self.reason = Some(Reason::Artim);
+            return true;
+        }
+        match limits.quiet {
+            Some(quiet) if self.silence >= quiet => {
+                self.reason = Some(Reason::Quiet);
+                true
+            }
+            _ => false,
+        }
+    }
+
+    /// Reads what came. Once the ARTIM timer has run out it is read once more: what came while
+    /// others had their turn is no delay of the peer's.
+    pub(crate) fn read(&mut self, buffer: &mut [u8], limits: &Limits) -> Result<ReadTurn, WireFault>
+        ensures { IfGot result (λ count. count ≤ length buffer.old) }
+    {
+        if self.stage == Stage::Overdue {
+            self.reason = Some(Reason::Artim);
+            return Ok(ReadTurn::Ended);
+        }
+        match self.receive(buffer)? {
+            ReadTurn::Nothing => {
+                if self.is_over(limits) {
+                    return Ok(ReadTurn::Ended);
+                }
+                Ok(ReadTurn::Nothing)
+            }
+            turn => {
+                if self.is_late(limits) {
+                    self.stage = Stage::Overdue;
+                }
+                Ok(turn)
+            }
+        }
+    }
+
+    // Reads what the system has for it.
+    fn receive(&mut self, buffer: &mut [u8]) -> Result<ReadTurn, WireFault>
+        ensures { IfGot result (λ count. count ≤ length buffer.old) }
+    {
+        if !self.ready.is_readable {
+            return Ok(ReadTurn::Nothing);
+        }
+        match self.socket.read(buffer) {
+            Ok(0) => Ok(ReadTurn::Ended),
+            Ok(count) => {
+                self.take(&buffer[..count]);
+                // Where there was room for more, the system has no more: it tells what comes later.
+                if count < buffer.len() {
+                    self.ready.is_readable = self.ready.is_ending;
+                }
+                Ok(ReadTurn::Got(count))
+            }
+            Err(error) => match error.kind() {
+                ErrorKind::Interrupted => Ok(ReadTurn::Nothing),
+                ErrorKind::WouldBlock => {
+                    self.ready.is_readable = false;
+                    Ok(ReadTurn::Nothing)
+                }
+                _ => Err(WireFault),
+            },
+        }
+    }
+
+    // These octets came.
+    fn take(&mut self, octets: &[u8]) {
+        if !self.is_begun {
+            self.share.titles = Titles::of_request(octets);
+        }
+        self.is_begun = true;
+        self.share.is_read = true;
+        self.share.passed_over = 0;
+        self.silence = Duration::ZERO;
+    }
+
+    /// Writes the first of these octets.
+    pub(crate) fn write(&mut self, octets: &[u8], limits: &Limits) -> Result<usize, WireFault>
+        ensures { IfOk result (λ count. count ≤ length octets.now) }
+    {
+        self.answer(octets);
+        if self.is_late(limits) {
+            self.reason = Some(Reason::Artim);
+            return Err(WireFault);
+        }
+        match self.send(octets)? {
+            0 => {
+                if self.is_over(limits) {
+                    return Err(WireFault);
+                }
+                Ok(0)
+            }
+            count => Ok(count),
+        }
+    }
+
+    // How far it is, once these octets are to be written. The first of them may have waited before:
+    // they are not looked at again.
+    fn answer(&mut self, octets: &[u8]) {
+        if self.stage == Stage::Closing {
+            return;
+        }
+        self.stage = Stage::Open;
+        let (_, others) = octets.split_at(self.looked_at.min(octets.len()));
+        self.looked_at = octets.len();
+        if self.headers.pass(others) {
+            self.stage = Stage::Closing;
+            self.waited = Duration::ZERO;
+        }
+    }
+
+    // Writes as many octets as the system takes.
+    fn send(&mut self, octets: &[u8]) -> Result<usize, WireFault>
+        ensures { IfOk result (λ count. count ≤ length octets.now) }
+    {
+        if !self.ready.is_writable {
+            return Ok(0);
+        }
+        self.is_sending = true;
+        match self.socket.write(octets) {
+            Ok(count) => {
+                self.silence = Duration::ZERO;
+                self.is_sending = count < octets.len();
+                self.looked_at = self.looked_at.saturating_sub(count);
+                Ok(count)
+            }
+            Err(error) => match error.kind() {
+                ErrorKind::Interrupted => Ok(0),
+                ErrorKind::WouldBlock => {
+                    self.ready.is_writable = false;
+                    Ok(0)
+                }
+                _ => Err(WireFault),
+            },
+        }
+    }
+
+    /// Sends no more.
+    pub(crate) fn end(&self) -> Result<(), WireFault> {
+        self.socket.end().or(Err(WireFault))
+    }
+}

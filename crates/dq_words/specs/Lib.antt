@@ -1,2 +1,0 @@
-pub mod Clap
-pub mod Words
