@@ -10,9 +10,9 @@ use Rattle.dq_core.specs.declared.fault.Fault.TheVariants as fault
 use Rattle.dq_core.specs.Faults.{server_fault_number as fault_number}
 use Rattle.dq_core.specs.Runs.{FaultsAfter, HasNoRoom}
 use Rattle.dq_core.specs.Shared.{replies}
-use Rattle.dq_captures.specs.Printing.{printed_line}
+use Rattle.dq_captures.specs.ReplyLines.{printed_line}
 use Rattle.dq_captures.specs.Surroundings.{AppendsPart}
-use Rattle.dq_captures.proofs.Written.{AppendsPart-items, AppendsPart-whole, Appends-kept}
+use Rattle.dq_captures.proofs.WrittenLines.{AppendsPart-items, AppendsPart-whole, Appends-kept}
 use Rattle.dq_app.specs.Program.{AreGiven, FaultsAt, CutsGiven, Cuts}
 use Rattle.dq_app.specs.declared.stop.Stop.{Stop}
 use Rattle.dq_app.specs.declared.stop.Stop.TheVariants as stop

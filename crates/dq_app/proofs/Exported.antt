@@ -7,17 +7,17 @@ use Rattle.std.proofs.lemmas.Grind.{flat_map-append}
 use Rattle.dq_dataset.specs.Tree.{ElementList}
 use Rattle.dq_tables.specs.declared.row.Kind.{Kind}
 use Rattle.dq_tables.specs.declared.row.Row.{Row}
-use Rattle.dq_tables.specs.Finding.{rows_of, records_of}
+use Rattle.dq_tables.specs.Lookups.{rows_of, records_of}
 use Rattle.dq_tables.specs.Records.{AreInOrder, data_set_of}
 use Rattle.dq_tables.specs.Rows.{Edit, IsRising, Record, after, by, of, row_of}
 use Rattle.dq_tables.proofs.Lens.{others}
-use Rattle.dq_tables.proofs.Listing.{listed_in_order}
-use Rattle.dq_tables.proofs.Seen.{listed_own}
-use Rattle.dq_captures.proofs.Written.{AppendsPart-after, Appends-kept, Appends-then, BreaksOff-item}
+use Rattle.dq_tables.proofs.RecordLists.{listed_in_order}
+use Rattle.dq_tables.proofs.OwnRows.{listed_own}
+use Rattle.dq_captures.proofs.WrittenLines.{AppendsPart-after, Appends-kept, Appends-then, BreaksOff-item}
 use Rattle.dq_app.specs.Program.{Breaks}
 use Rattle.dq_console.specs.ConsoleLines.{json_line, json_lines}
 use Rattle.dq_cli.specs.CommandLine.{Exporting}
-use Rattle.dq_app.specs.Exports.{data_sets_of, exported, kinds_asked, export_text, CutsLines}
+use Rattle.dq_app.specs.Exports.{data_sets_of, exported_data_sets, kinds_asked, export_text, CutsLines}
 use Rattle.dq_app.specs.declared.stop.Stop.{Stop}
 use Rattle.dq_app.specs.declared.stop.Stop.TheVariants as stop
 
@@ -55,14 +55,14 @@ row-cut before mid after rows at row stop.Network within is done cut = cut
 
 module _ (records : List Record) (kinds : List Kind) (at : ℕ) (kind none : Kind) (within : at < length kinds) (is : kind ≡ get_or kinds at none) where
   abbrev later : List ElementList
-  later = exported records (drop (suc at) kinds)
+  later = exported_data_sets records (drop (suc at) kinds)
 
   -- what is exported before a kind, of it, and behind it
-  parts : exported records kinds ≡ exported records (take at kinds) ++ (data_sets_of records kind ++ later)
+  parts : exported_data_sets records kinds ≡ exported_data_sets records (take at kinds) ++ (data_sets_of records kind ++ later)
   parts =
       let rest : drop at kinds ≡ kind ∷ drop (suc at) kinds = drop-cons kinds at none within ∙ ap (λ (k : Kind). k ∷ drop (suc at) kinds) (sym is) in
-      ap (exported records) (sym (take-append-drop at kinds)) ∙ flat_map-append (data_sets_of records) (take at kinds) (drop at kinds)
-      ∙ ap (λ (ks : List Kind). exported records (take at kinds) ++ exported records ks) rest
+      ap (exported_data_sets records) (sym (take-append-drop at kinds)) ∙ flat_map-append (data_sets_of records) (take at kinds) (drop at kinds)
+      ∙ ap (λ (ks : List Kind). exported_data_sets records (take at kinds) ++ exported_data_sets records ks) rest
 
   front : (count : ℕ) (xs ys zs : List ElementList) → take (length xs + min count (length ys)) (xs ++ (ys ++ zs)) ≡ xs ++ take count ys
   front count xs ys zs =
@@ -70,19 +70,19 @@ module _ (records : List Record) (kinds : List Kind) (at : ℕ) (kind none : Kin
       ∙ ap (λ (l : List ElementList). xs ++ l) (take-append-le (min count (length ys)) ys zs (omega arith) ∙ take_min count ys)
 
   -- kinds are cut short at one of them
-  pub kind-cut : (before mid after : Option (List ℕ)) (cause : Stop) → Appends before mid (json_lines (exported records (take at kinds)))
-      → CutsLines mid after (data_sets_of records kind) cause → CutsLines before after (exported records kinds) cause
+  pub kind-cut : (before mid after : Option (List ℕ)) (cause : Stop) → Appends before mid (json_lines (exported_data_sets records (take at kinds)))
+      → CutsLines mid after (data_sets_of records kind) cause → CutsLines before after (exported_data_sets records kinds) cause
   kind-cut before mid after (stop.Fault number) done cut =
-      let first = exported records (take at kinds) in
+      let first = exported_data_sets records (take at kinds) in
       let these = data_sets_of records kind in
-      let text : json_lines (take (length first + min cut.0 (length these)) (exported records kinds)) ≡ json_lines first ++ json_lines (take cut.0 these) =
+      let text : json_lines (take (length first + min cut.0 (length these)) (exported_data_sets records kinds)) ≡ json_lines first ++ json_lines (take cut.0 these) =
       ap (λ (all : List ElementList). json_lines (take (length first + min cut.0 (length these)) all)) parts
       ∙ ap json_lines (front cut.0 first these later) ∙ flat_map-append json_line first (take cut.0 these) in
       (length first + min cut.0 (length these), rw text (Appends-then before mid after (json_lines first) (json_lines (take cut.0 these)) done cut.1))
   kind-cut before mid after stop.Output done part =
-      let first = exported records (take at kinds) in
+      let first = exported_data_sets records (take at kinds) in
       let these = data_sets_of records kind in
-      let text : json_lines (exported records kinds) ≡ json_lines first ++ (json_lines these ++ json_lines later) =
+      let text : json_lines (exported_data_sets records kinds) ≡ json_lines first ++ (json_lines these ++ json_lines later) =
       ap json_lines parts ∙ flat_map-append json_line first (these ++ later) ∙ ap (λ (l : List ℕ). json_lines first ++ l) (flat_map-append json_line these later) in
       rw text (AppendsPart-after before mid after (json_lines first) (json_lines these) (json_lines later) done part)
   kind-cut before mid after stop.Usage done cut = cut
@@ -97,7 +97,7 @@ module _ (records : List Record) (kinds : List Kind) (at : ℕ) (kind none : Kin
 
 pub own_alone : (exporting : Exporting) (one other : List Row) → of exporting.only one ≡ of exporting.only other
     → export_text one exporting ≡ export_text other exporting
-own_alone exporting one other same = ap (λ (records : List Record). json_lines (exported records (kinds_asked exporting.kind))) same
+own_alone exporting one other same = ap (λ (records : List Record). json_lines (exported_data_sets records (kinds_asked exporting.kind))) same
 
 pub others_stay : (exporting : Exporting) (name : List ℕ) → name ≢ exporting.only → (edits : List Edit) (rows : List Row) → IsRising rows
     → export_text (after (by name edits) rows) exporting ≡ export_text rows exporting

@@ -7,7 +7,7 @@ use Rattle.dq_core.specs.Shared.{replies}
 use Rattle.dq_core.specs.declared.event.Event.{Event}
 use Rattle.dq_core.specs.ServerView.{ServerView}
 use Rattle.dq_tables.specs.declared.row.Row.{Row}
-use Rattle.dq_tables.specs.Keeping.{State}
+use Rattle.dq_tables.specs.TableStates.{State}
 use Rattle.dq_wires.specs.declared.calls.Call.{Call}
 use Rattle.dq_wires.specs.Looping.{ArePlayed}
 use Rattle.dq_wires.specs.Logs.{LogsAll}

@@ -1,7 +1,7 @@
 -- What a copy of a store prints, and what it stops by.
 use Rattle.std.specs.Prelude.{◌≡◌, ◌⊎◌, ℕ, List, codes, Option}
 use Rattle.std.specs.Io.KnownBytes.{Keeps}
-use Rattle.dq_captures.specs.Printing.{numbered_line}
+use Rattle.dq_captures.specs.ReplyLines.{numbered_line}
 use Rattle.dq_captures.specs.Surroundings.{AppendsPart}
 use Rattle.dq_app.specs.declared.stop.Stop.{Stop}
 use Rattle.dq_app.specs.declared.stop.Stop.TheVariants as stop

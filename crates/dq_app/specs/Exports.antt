@@ -6,7 +6,7 @@ use Rattle.dq_dataset.specs.Tree.{ElementList}
 use Rattle.dq_tables.specs.declared.row.Kind.{Kind}
 use Rattle.dq_tables.specs.declared.row.Kind.TheVariants.{Study, Series, Image, Entry, Step}
 use Rattle.dq_tables.specs.declared.row.Row.{Row}
-use Rattle.dq_tables.specs.Finding.{records_of}
+use Rattle.dq_tables.specs.Lookups.{records_of}
 use Rattle.dq_tables.specs.Records.{data_set_of}
 use Rattle.dq_tables.specs.Rows.{Record, of}
 use Rattle.dq_captures.specs.Surroundings.{AppendsPart}
@@ -37,12 +37,13 @@ abbrev pub data_sets_of : List Record → Kind → List ElementList
 data_sets_of records kind = map (λ (r : Record). data_set_of r.octets) (records_of kind records)
 
 -- and of some kinds, one kind after another
-abbrev pub exported : List Record → List Kind → List ElementList
-exported records kinds = flat_map (data_sets_of records) kinds
+abbrev pub exported_data_sets : List Record → List Kind → List ElementList
+exported_data_sets records kinds = flat_map (data_sets_of records) kinds
 
 -- what an export takes of some rows: the institution's own, of the kinds that are asked for
 abbrev pub exported_of : List Row → Exporting → List ElementList
-exported_of rows exporting = exported (of exporting.only rows) (kinds_asked exporting.kind)
+exported_of rows exporting =
+    exported_data_sets (of exporting.only rows) (kinds_asked exporting.kind)
 
 -- what it prints: a line of DICOM JSON (PS3.18 annex F) for each data set, and nothing else
 abbrev pub export_text : List Row → Exporting → List ℕ

@@ -10,7 +10,7 @@ use Rattle.dq_wires.specs.declared.looping.Sent.{Sent}
 use Rattle.dq_wires.specs.Looping.{sent_number, ArePlayed}
 use Rattle.dq_wires.specs.Servings.{Act, nothing_held}
 use Rattle.dq_wires.specs.Turns.Cut.{NoRoom}
-use Rattle.dq_captures.specs.Printing.{octets_line}
+use Rattle.dq_captures.specs.ReplyLines.{octets_line}
 use Rattle.dq_captures.specs.Surroundings.{BreaksOff}
 use Rattle.dq_app.specs.declared.stop.Stop.{Stop}
 use Rattle.dq_app.specs.declared.stop.Stop.TheVariants as stop

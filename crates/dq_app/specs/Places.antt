@@ -6,12 +6,12 @@ use Rattle.dq_config.specs.declared.fault.ConfigFault.{ConfigFault}
 use Rattle.dq_config.specs.Conditions.{configuration}
 
 -- the words with which an institution begins
-abbrev pub heading : List ℕ
-heading = codes "[[institution]]"
+abbrev pub institution_heading : List ℕ
+institution_heading = codes "[[institution]]"
 
 -- an institution begins after so many octets
 abbrev pub begins_at : List ℕ → ℕ → Bool
-begins_at text at = starts_with nat_eq (drop at text) heading
+begins_at text at = starts_with nat_eq (drop at text) institution_heading
 
 -- the number of the line that stands after so many octets
 abbrev pub line_at : List ℕ → ℕ → ℕ

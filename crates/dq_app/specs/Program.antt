@@ -26,7 +26,7 @@ use Rattle.dq_app.specs.declared.stop.Misfit.{Misfit}
 use Rattle.dq_app.specs.declared.stop.Stop.{Stop}
 use Rattle.dq_app.specs.declared.stop.Stop.TheVariants as stop
 use Rattle.dq_captures.specs.Captures.{line_feed, lines_of, AreCapture, IsFirstBadLine}
-use Rattle.dq_captures.specs.Printing.{numbered_line, reply_lines}
+use Rattle.dq_captures.specs.ReplyLines.{numbered_line, reply_lines}
 use Rattle.dq_app.specs.Places.{IsAtLine}
 use Rattle.dq_captures.specs.Reports.{names_of, report_text}
 use Rattle.dq_captures.specs.Surroundings.{AppendsPart, BreaksOff}

@@ -21,7 +21,7 @@ use Rattle.dq_app.specs.declared.stop.Stop.{Stop}
 use Rattle.dq_app.specs.declared.stop.Stop.TheVariants as stop
 use Rattle.dq_console.specs.Console.{HeldClient, Attending, IsAttending, attending_acts, attending_calls, after_attending, Interruption, IsInterruption, interruption_acts, interruption_calls, rows_after, VisitsTell, AttendingTells}
 use Rattle.dq_app.specs.Program.{no_memory, IsRunFault, IsConfigured, RefusesFile, RefusesStore, IsInStore, rows_at, ClosesAt, unclosed_store}
-use Rattle.dq_captures.specs.Printing.{numbered_line}
+use Rattle.dq_captures.specs.ReplyLines.{numbered_line}
 use Rattle.dq_captures.specs.Reports.{names_of}
 use Rattle.dq_captures.specs.Surroundings.{BreaksOff}
 

@@ -2,14 +2,14 @@
 ghost use Rattle.std.specs.Prelude.{◌≡◌, ◌≢◌, map, IfOk, IfErr, OnOk};
 ghost use Rattle.std.specs.Io.KnownBytes.{Appends};
 ghost use Rattle.dq_tables.specs.declared.row.Row.{Row};
-ghost use Rattle.dq_tables.specs.Finding.{rows_of};
+ghost use Rattle.dq_tables.specs.Lookups.{rows_of};
 ghost use Rattle.dq_tables.specs.Records.{data_set_of};
 ghost use Rattle.dq_tables.specs.Rows.{of};
 ghost use Rattle.dq_cli.specs.CommandLine.{exporting_in};
 ghost use Rattle.dq_app.specs.Program.{Breaks, EndsTask};
 ghost use Rattle.dq_console.specs.ServiceProgress.{AreHonest};
 ghost use Rattle.dq_console.specs.ConsoleLines.{json_line, json_lines};
-ghost use Rattle.dq_app.specs.Exports.{kind_named, kinds_asked, data_sets_of, exported, exported_of, export_text, CutsLines, IsExported, StopsExport};
+ghost use Rattle.dq_app.specs.Exports.{kind_named, kinds_asked, data_sets_of, exported_data_sets, exported_of, export_text, CutsLines, IsExported, StopsExport};
 
 use crate::stop::Stop;
 use crate::stores::Stores;
@@ -117,11 +117,11 @@ fn put_kinds<T: Tables, W: Sink>(
 ) -> Result<(), Stop>
     ensures done { AreHonest T.state → OnOk result (Appends (W.written output.old)
         (W.written output.new)
-        (json_lines (exported (of name.now (T.state tables.old).rows) kinds.now))) }
+        (json_lines (exported_data_sets (of name.now (T.state tables.old).rows) kinds.now))) }
     ensures kept { AreHonest T.state → (T.state tables.new).rows ≡ (T.state tables.old).rows }
     ensures ends { IfErr result (EndsTask (W.may_fail output.old)) }
     ensures cut { AreHonest T.state → IfErr result (CutsLines (W.written output.old)
-        (W.written output.new) (exported (of name.now (T.state tables.old).rows) kinds.now)) }
+        (W.written output.new) (exported_data_sets (of name.now (T.state tables.old).rows) kinds.now)) }
     ensures fails { W.may_fail output.new → W.may_fail output.old }
 {
     for kind in kinds {
@@ -139,12 +139,12 @@ fn put_asked<T: Tables, W: Sink>(
 ) -> Result<(), Stop>
     ensures done { AreHonest T.state → OnOk result (Appends (W.written output.old)
         (W.written output.new) (json_lines
-        (exported (of export.entry.only.now (T.state tables.old).rows) (kinds_asked export.entry.kind)))) }
+        (exported_data_sets (of export.entry.only.now (T.state tables.old).rows) (kinds_asked export.entry.kind)))) }
     ensures kept { AreHonest T.state → (T.state tables.new).rows ≡ (T.state tables.old).rows }
     ensures ends { IfErr result (EndsTask (W.may_fail output.old)) }
     ensures cut { AreHonest T.state → IfErr result (CutsLines (W.written output.old)
         (W.written output.new)
-        (exported (of export.entry.only.now (T.state tables.old).rows) (kinds_asked export.entry.kind))) }
+        (exported_data_sets (of export.entry.only.now (T.state tables.old).rows) (kinds_asked export.entry.kind))) }
     ensures fails { W.may_fail output.new → W.may_fail output.old }
 {
     let name = export.only.as_bytes();

@@ -2,7 +2,7 @@
 ghost use Rattle.std.specs.Prelude.{◌≡◌, ◌≢◌, ℕ, List, IfSome};
 ghost use Rattle.dq_tables.specs.declared.row.Kind.{Kind};
 ghost use Rattle.dq_tables.specs.declared.row.Row.{Row};
-ghost use Rattle.dq_tables.specs.Finding.{records_of};
+ghost use Rattle.dq_tables.specs.Lookups.{records_of};
 ghost use Rattle.dq_tables.specs.Records.{AreInOrder};
 ghost use Rattle.dq_tables.specs.Rows.{Edit, IsRising, after, by, of};
 ghost use Rattle.dq_captures.specs.Captures.{lines_of};

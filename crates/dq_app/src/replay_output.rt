@@ -3,7 +3,7 @@ ghost use Rattle.std.specs.Prelude.{◌≡◌, ◌≢◌, false, None, Some, IsT
 ghost use Rattle.std.specs.Io.KnownBytes.{Appends};
 ghost use Rattle.dq_core.specs.Histories.{is_well_formed_history};
 ghost use Rattle.dq_core.specs.Shared.{replies, world_after};
-ghost use Rattle.dq_captures.specs.Printing.{reply_lines};
+ghost use Rattle.dq_captures.specs.ReplyLines.{reply_lines};
 ghost use Rattle.dq_app.specs.Program.{AreGiven, CutsGiven, Cuts, EndsTask};
 ghost use Rattle.dq_console.specs.ServiceProgress.{AreHonest};
 

@@ -1,7 +1,7 @@
-pub mod Deciding
-pub mod Looking
-pub mod Named
+pub mod Decisions
+pub mod Lookups
+pub mod UniqueKeys
 pub mod OwnRecords
-pub mod Leaving
-pub mod LookingBack
-pub mod Adding
+pub mod PastRecords
+pub mod PastLookups
+pub mod AddedRecords

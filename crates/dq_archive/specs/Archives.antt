@@ -1,13 +1,13 @@
--- What is looked up in an archive and decided over it. Both follow from the records of its
--- institution alone.
+-- Lookups in an archive, and decisions over it. Both follow from the records of its institution
+-- alone.
 use Rattle.std.specs.Prelude.{◌≡◌, List, Result, IfOk}
 use Rattle.std.specs.Borrow.{MutBor}
 use Rattle.dq_tables.specs.declared.fault.TableFault.{TableFault}
 use Rattle.dq_tables.specs.Rows.{Record, Edit, of}
-use Rattle.dq_tables.specs.Keeping.{State, Reads}
+use Rattle.dq_tables.specs.TableStates.{State, Reads}
 use Rattle.dq_archive.specs.declared.archive.Archive.{Archive}
 use Rattle.dq_archive.specs.declared.decision.Decision.{Decision}
-use Rattle.dq_archive.specs.Deciding.{IsOwn, IsDecided}
+use Rattle.dq_archive.specs.Decisions.{IsOwn, IsDecided}
 
 -- an archive over tables that are lent to it
 pub record IsOver {T : Type 0} (tables : MutBor T) (archive : Archive T) : Type 0 where
@@ -27,7 +27,7 @@ state_in state archive = state archive.tables.now
 abbrev pub records_in : {T : Type 0} → (T → State) → Archive T → List Record
 records_in state archive = of archive.institution.now.name (state_in state archive).rows
 
--- What is looked up follows from these records, and nothing changes.
+-- A lookup follows from these records, and nothing changes.
 pub record QueriesOnly {T : Type 0} {Answer : Type 0} (state : T → State) (old new : Archive T)
     (look : List Record → Answer) (result : Result Answer TableFault) : Type 0 where
   pub same : IsSame old new
@@ -35,7 +35,7 @@ pub record QueriesOnly {T : Type 0} {Answer : Type 0} (state : T → State) (old
   pub answered : (state_in state new).honest
       → IfOk result (λ answer. answer ≡ look (records_in state old))
 
--- What is decided follows from them, and nothing changes yet.
+-- A decision follows from them, and nothing changes yet.
 pub record Decides {T : Type 0} {Answer : Type 0} (state : T → State) (old new : Archive T)
     (does : List Record → Answer × List Edit) (result : Result (Decision Answer) TableFault)
     : Type 0 where

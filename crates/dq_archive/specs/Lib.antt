@@ -1,4 +1,4 @@
 pub mod Archives
-pub mod Deciding
-pub mod Later
-pub mod Pasts
+pub mod Decisions
+pub mod Additions
+pub mod PastArchives

@@ -1,15 +1,15 @@
 //! One institution's part of the rows that tables keep.
 ghost use Rattle.std.specs.Prelude.{◌≡◌, is_some, length, take, drop, map, option_map, OnOk};
 ghost use Rattle.dq_tables.specs.Rows.{row_of};
-ghost use Rattle.dq_tables.specs.Finding.{record_at, records_of, records_above, records_after, waiting_among};
-ghost use Rattle.dq_tables.specs.Choosing.{studies_among};
-ghost use Rattle.dq_tables.specs.Serving.{Serves};
+ghost use Rattle.dq_tables.specs.Lookups.{record_at, records_of, records_above, records_after, waiting_among};
+ghost use Rattle.dq_tables.specs.StudyChoices.{studies_among};
+ghost use Rattle.dq_tables.specs.ServiceEffects.{Serves};
 ghost use Rattle.dq_archive.specs.Archives.{IsOver, IsSame, state_in, QueriesOnly};
-ghost use Rattle.dq_archive.specs.Deciding.{answer_and_edits, IsOwn, FitsIf};
-ghost use Rattle.dq_archive.specs.Later.{IsTold};
+ghost use Rattle.dq_archive.specs.Decisions.{answer_and_edits, IsOwn, FitsIf};
+ghost use Rattle.dq_archive.specs.Additions.{IsTold};
 
+use crate::additions::{Addition, tell_if};
 use crate::decision::Decision;
-use crate::later::{Added, tell_if};
 use dq_config::Institution;
 use dq_list::Listed;
 use dq_tables::laws::honest_rows_are_sound;
@@ -160,7 +160,7 @@ impl<'a, T: Tables> Archive<'a, T> {
     pub fn carry_out_telling<A: Drop>(
         &mut self,
         decision: Decision<A>,
-        added: &mut Listed<Added>,
+        added: &mut Listed<Addition>,
     ) -> Result<A, TableFault>
         requires own { IsOwn self.old.institution.now.name decision.change }
         requires fits { (state_in T.state self.old).honest

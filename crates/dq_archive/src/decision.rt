@@ -1,9 +1,9 @@
-//! What a service decides.
+//! Decisions of services.
 ghost use Rattle.std.specs.Prelude.{◌≡◌, None, Some};
 
 use dq_tables::Change;
 
-/// What a service answers, and the change that goes with it, if one does. Nothing is changed yet.
+/// A service's answer, and the change that goes with it, if any. Nothing is changed yet.
 #[derive(Drop)]
 pub struct Decision<A> {
     pub answer: A,

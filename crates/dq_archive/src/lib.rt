@@ -1,13 +1,13 @@
 //! One institution's part of the kept rows, and what a service decides over it.
 #![tactic(auto)]
 
+mod additions;
 mod archive;
 mod decision;
-mod later;
 pub mod laws;
 mod past;
 
+pub use additions::Addition;
 pub use archive::Archive;
 pub use decision::Decision;
-pub use later::Added;
 pub use past::Past;

@@ -1,12 +1,12 @@
 //! An archive as it was.
 ghost use Rattle.std.specs.Prelude.{◌≡◌, length, take, drop, map, option_map};
 ghost use Rattle.dq_tables.specs.Rows.{row_of};
-ghost use Rattle.dq_tables.specs.Finding.{record_at, records_of, records_above, records_after};
-ghost use Rattle.dq_tables.specs.Choosing.{studies_among};
-ghost use Rattle.dq_archive.specs.Later.{unless_later};
-ghost use Rattle.dq_archive.specs.Pasts.{IsOver, QueriesOnly};
+ghost use Rattle.dq_tables.specs.Lookups.{record_at, records_of, records_above, records_after};
+ghost use Rattle.dq_tables.specs.StudyChoices.{studies_among};
+ghost use Rattle.dq_archive.specs.Additions.{unless_later};
+ghost use Rattle.dq_archive.specs.PastArchives.{IsOver, QueriesOnly};
 
-use crate::later::{Added, before, is_later, is_touched};
+use crate::additions::{Addition, before, is_later, is_touched};
 use dq_config::Institution;
 use dq_list::Listed;
 use dq_tables::laws::honest_rows_are_sound;
@@ -21,12 +21,16 @@ pub struct Past<'a, T> {
     pub alloc: Global,
     pub institution: &'a Institution,
     tables: &'a mut T,
-    later: &'a [Added],
+    later: &'a [Addition],
 }
 
 impl<'a, T: Tables> Past<'a, T> {
     /// The archive of an institution before some records were added.
-    pub fn new(tables: &'a mut T, institution: &'a Institution, later: &'a [Added]) -> Past<'a, T>
+    pub fn new(
+        tables: &'a mut T,
+        institution: &'a Institution,
+        later: &'a [Addition],
+    ) -> Past<'a, T>
         ensures tables { IsOver tables.entry result }
         ensures institution { result.institution ≡ institution.entry }
         ensures later { result.later ≡ later.entry }

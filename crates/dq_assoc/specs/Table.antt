@@ -6,7 +6,7 @@ use Rattle.std.specs.Prelude.{ℕ, Bool, true, false, if◌then◌else◌, List,
 use Rattle.dq_pdu.specs.declared.pdu.Pdu.{Pdu}
 use Rattle.dq_pdu.specs.declared.pdu.Pdu.TheVariants.{ReleaseRp, Abort}
 use Rattle.dq_pdu.specs.declared.pdu.Request.{Request}
-use Rattle.dq_pdu.specs.Writing.{is_writable, spelling}
+use Rattle.dq_pdu.specs.Writing.{is_writable, pdu_octets}
 use Rattle.dq_dimse.specs.Received.{Message}
 pub use Rattle.dq_assoc.specs.Reasons.{by_user, by_provider, not_specified, unrecognized_pdu, unexpected_pdu, invalid_parameter}
 use Rattle.dq_assoc.specs.declared.association.State.{State}
@@ -86,7 +86,7 @@ line Closed verdict input = goes None Closed
 -- the octets of an answer
 abbrev pub answer_octets : Option Pdu → List ℕ
 answer_octets None = []
-answer_octets (Some pdu) = spelling pdu
+answer_octets (Some pdu) = pdu_octets pdu
 
 -- whether an input is a message
 abbrev pub is_message : Input → Bool

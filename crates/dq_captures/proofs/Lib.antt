@@ -1,7 +1,7 @@
 pub mod Numbers
 pub mod Lines
 pub mod OneSpelling
-pub mod Bringing
+pub mod BroughtOctets
 pub mod Steps
-pub mod Written
+pub mod WrittenLines
 pub mod Spelling

@@ -3,7 +3,7 @@ use Rattle.std.proofs.Common.{◌≡◌, ℕ, ◌/◌, ◌%◌, List, [], ◌∷
 use Rattle.std.specs.Io.KnownBytes.{Appends}
 use Rattle.hex.specs.Hex.{encode_with, encode_lower, lower_digits}
 use Rattle.dq_captures.specs.Surroundings.{BreaksOff}
-use Rattle.dq_captures.proofs.Written.{Appends-none, Appends-then, AppendsPart-after}
+use Rattle.dq_captures.proofs.WrittenLines.{Appends-none, Appends-then, AppendsPart-after}
 
 encode-append : (digits xs ys : List ℕ) → encode_with digits (xs ++ ys) ≡ encode_with digits xs ++ encode_with digits ys
 unfolding encode_with

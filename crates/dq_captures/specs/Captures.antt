@@ -48,8 +48,8 @@ SpellsPiece text (Piece number octets) = (digits : List ℕ) × (hex : List ℕ)
     × (text ≡ digits ++ codes " " ++ hex) × IsNumber digits number × SpellOctets hex octets
 SpellsPiece text (End number) = ⊥
 SpellsPiece text (Pull number) = ⊥
-SpellsPiece text (Schedule inst octets) = ⊥
-SpellsPiece text (Withdraw inst id) = ⊥
+SpellsPiece text (Schedule institution octets) = ⊥
+SpellsPiece text (Withdraw institution id) = ⊥
 
 -- an order of the console after its word: the institution's name, a space, and the octets
 abbrev pub SpellsOrder : List ℕ → List ℕ → List ℕ → Type 0
@@ -67,10 +67,10 @@ SpellsEvent line (End number) =
     (digits : List ℕ) × (line ≡ codes "end " ++ digits) × IsNumber digits number
 SpellsEvent line (Pull number) =
     (digits : List ℕ) × (line ≡ codes "pull " ++ digits) × IsNumber digits number
-SpellsEvent line (Schedule inst octets) =
-    (rest : List ℕ) × (line ≡ codes "schedule " ++ rest) × SpellsOrder rest inst octets
-SpellsEvent line (Withdraw inst id) =
-    (rest : List ℕ) × (line ≡ codes "withdraw " ++ rest) × SpellsOrder rest inst id
+SpellsEvent line (Schedule institution octets) =
+    (rest : List ℕ) × (line ≡ codes "schedule " ++ rest) × SpellsOrder rest institution octets
+SpellsEvent line (Withdraw institution id) =
+    (rest : List ℕ) × (line ≡ codes "withdraw " ++ rest) × SpellsOrder rest institution id
 
 -- each line spells its event
 abbrev pub SpellEach : List (List ℕ) → List Event → Type 0

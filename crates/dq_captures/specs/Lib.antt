@@ -1,5 +1,5 @@
 pub mod Captures
 pub mod Faults
-pub mod Printing
+pub mod ReplyLines
 pub mod Reports
 pub mod Surroundings

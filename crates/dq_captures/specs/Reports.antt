@@ -6,7 +6,7 @@ use Rattle.dq_config.specs.declared.config.Institution.{Institution}
 use Rattle.dq_tables.specs.declared.row.Kind.{Kind}
 use Rattle.dq_tables.specs.declared.row.Kind.TheVariants.{Study, Series, Image, Entry, Step}
 use Rattle.dq_tables.specs.declared.row.Row.{Row}
-use Rattle.dq_tables.specs.Finding.{rows_of}
+use Rattle.dq_tables.specs.Lookups.{rows_of}
 use Rattle.dq_captures.specs.Captures.{line_feed}
 
 abbrev pub every_kind : List Kind

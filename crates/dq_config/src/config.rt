@@ -7,9 +7,9 @@ ghost use Rattle.dq_config.specs.Document.{built_in};
 ghost use Rattle.std.specs.Option.{option_copied};
 ghost use Rattle.dq_config.specs.Routing.{joins, has_route, institution_routed, institution_named, same_octets};
 
+use crate::conditions::judge;
+use crate::document_reader::institutions_in;
 use crate::fault::ConfigFault;
-use crate::judging::judge;
-use crate::reading::institutions_in;
 use dq_list::Listed;
 use dq_value::stripped;
 use std::alloc::{AllocError, Global};

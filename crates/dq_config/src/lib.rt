@@ -2,12 +2,12 @@
 //! of titles that are its own, and its limits. It is read from a TOML text.
 #![tactic(auto)]
 
+mod conditions;
 mod config;
+mod document_reader;
 mod fault;
-mod judging;
 pub mod laws;
-mod reading;
 
+pub use conditions::is_name;
 pub use config::{Config, Institution, Route};
 pub use fault::ConfigFault;
-pub use judging::is_name;

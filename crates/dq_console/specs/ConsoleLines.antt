@@ -60,8 +60,8 @@ abbrev pub page_most : ℕ
 page_most = 1000
 
 -- a search before its words are taken
-abbrev pub begun : Subject → List ℕ → Search
-begun subject rest = record {
+abbrev pub new_search : Subject → List ℕ → Search
+new_search subject rest = record {
   subject = subject;
   institution = name_in rest;
   keys = [];
@@ -72,7 +72,7 @@ begun subject rest = record {
 -- copy of all rows at a path.
 abbrev pub SpellsRequest : List ℕ → Request → Type 0
 SpellsRequest line (request.Search search) = (subject : Subject) × (rest : List ℕ)
-    × (line ≡ subject_word subject ++ rest) × TakesWords (words_in rest) (begun subject rest) search
+    × (line ≡ subject_word subject ++ rest) × TakesWords (words_in rest) (new_search subject rest) search
 SpellsRequest line (request.Counts name) = ⊥
 SpellsRequest line request.Report = line ≡ codes "report"
 SpellsRequest line (request.Schedule institution octets) =
@@ -84,14 +84,14 @@ SpellsRequest line (request.Backup path) = line ≡ codes "backup " ++ string_by
 -- This word of a search is the first that is none.
 abbrev pub IsMisspelled : List ℕ → List ℕ → Type 0
 IsMisspelled line word = (subject : Subject) × (rest : List ℕ) × (line ≡ subject_word subject ++ rest)
-    × StopsAt word (words_in rest) (begun subject rest)
+    × StopsAt word (words_in rest) (new_search subject rest)
 
 -- what a search tells, by what stands behind its word
 abbrev pub SpellsSearch : Subject → List ℕ → ConsoleLine → Type 0
 SpellsSearch subject rest (Asked (request.Search search)) =
-    TakesWords (words_in rest) (begun subject rest) search
+    TakesWords (words_in rest) (new_search subject rest) search
 SpellsSearch subject rest (Misspelled word) =
-    StopsAt (string_bytes word) (words_in rest) (begun subject rest)
+    StopsAt (string_bytes word) (words_in rest) (new_search subject rest)
 SpellsSearch subject rest other = ⊥
 
 -- what an order asks

@@ -8,8 +8,8 @@ use Rattle.dq_dimse.specs.Statuses.{success}
 use Rattle.dq_match.specs.declared.responses.Found.{Found}
 use Rattle.dq_tables.specs.declared.row.Kind.TheVariants as kind
 use Rattle.dq_tables.specs.declared.row.Row.{Row}
-use Rattle.dq_tables.specs.Finding.{rows_of}
-use Rattle.dq_tables.specs.Keeping.{State}
+use Rattle.dq_tables.specs.Lookups.{rows_of}
+use Rattle.dq_tables.specs.TableStates.{State}
 use Rattle.dq_core.specs.declared.event.Event.{Event}
 use Rattle.dq_core.specs.declared.event.Event.TheVariants as event
 use Rattle.dq_core.specs.declared.event.Reply.{Reply}
@@ -43,8 +43,8 @@ abbrev pub kind_of : Subject → SearchKind
 kind_of Worklist = among.Worklist
 kind_of subject = among.StudyRoot
 
-abbrev pub shown : Page → ShownPage
-shown page = record { offset = page.offset; limit = page.limit }
+abbrev pub page_window : Page → ShownPage
+page_window page = record { offset = page.offset; limit = page.limit }
 
 -- what was found; the status of a search that is refused; or that no institution has the name
 abbrev pub found_response : Option Found → Response
@@ -66,9 +66,9 @@ is_steps subject = false
 abbrev pub search_response : List Institution → List Row → Search → Response
 search_response institutions rows search =
     if is_steps search.subject
-    then steps_response (steps_for institutions search.institution rows (shown search.page))
+    then steps_response (steps_for institutions search.institution rows (page_window search.page))
     else found_response (found_for institutions search.institution rows (kind_of search.subject)
-    (identifier_of search.subject search.keys) (shown search.page))
+    (identifier_of search.subject search.keys) (page_window search.page))
 
 -- ---- counts
 
@@ -81,8 +81,8 @@ counts_of rows name = record {
   steps = length (rows_of kind.Step name rows);
 }
 
-abbrev pub counted : List Row → List ℕ → Counted
-counted rows name = record { institution = name; counts = counts_of rows name }
+abbrev pub institution_counts : List Row → List ℕ → Counted
+institution_counts rows name = record { institution = name; counts = counts_of rows name }
 
 abbrev pub is_among : List (List ℕ) → List ℕ → Bool
 is_among names name = list_any (λ it. bytes_eq it name) names
@@ -90,12 +90,12 @@ is_among names name = list_any (λ it. bytes_eq it name) names
 -- how much an institution keeps, if it is one of these
 abbrev pub counts_response : List (List ℕ) → List Row → List ℕ → Response
 counts_response names rows name =
-    if is_among names name then response.Counted (counted rows name ∷ [])
+    if is_among names name then response.Counted (institution_counts rows name ∷ [])
     else response.Refused cause.Institution
 
 -- how much each of these keeps, in their order
 abbrev pub report_response : List (List ℕ) → List Row → Response
-report_response names rows = response.Counted (map (counted rows) names)
+report_response names rows = response.Counted (map (institution_counts rows) names)
 
 -- ---- orders
 

@@ -3,7 +3,7 @@ use Rattle.std.specs.Prelude.{◌≡◌, List, ◌++◌, Option, None}
 use Rattle.dq_config.specs.declared.config.Institution.{Institution}
 use Rattle.dq_core.specs.ServerView.{ServerView}
 use Rattle.dq_tables.specs.declared.row.Row.{Row}
-use Rattle.dq_tables.specs.Keeping.{State}
+use Rattle.dq_tables.specs.TableStates.{State}
 use Rattle.dq_wires.specs.declared.calls.Call.{Call}
 use Rattle.dq_wires.specs.Servings.{Act, Serving}
 use Rattle.dq_wires.specs.Turners.{TurnerView}

@@ -1,9 +1,9 @@
 //! How much institutions keep.
 ghost use Rattle.std.specs.Prelude.{◌≡◌, List, length, map, IfOk, IfErr, OnOk};
 ghost use Rattle.dq_tables.specs.declared.row.Row.{Row};
-ghost use Rattle.dq_tables.specs.Finding.{rows_of};
+ghost use Rattle.dq_tables.specs.Lookups.{rows_of};
 ghost use Rattle.dq_core.specs.declared.fault.Fault.{Fault};
-ghost use Rattle.dq_console.specs.Requests.{counts_of, counted};
+ghost use Rattle.dq_console.specs.Requests.{counts_of, institution_counts};
 
 use dq_core::Fault;
 use dq_list::Listed;
@@ -78,7 +78,7 @@ pub fn counts_of<C: Counting>(rows: &mut C, name: &[u8]) -> Result<Counts, Fault
 /// How much the institution of a name keeps.
 pub fn counted<C: Counting>(alloc: Global, rows: &mut C, name: &[u8]) -> Result<Counted, Fault>
     ensures counted { C.is_honest rows.new → IfOk result (λ it.
-        it ≡ counted (C.rows rows.old) name.now) }
+        it ≡ institution_counts (C.rows rows.old) name.now) }
     ensures leads { OnOk result (C.leads rows.old rows.new) }
     ensures fails { IfErr result (C.fails rows.old rows.new) }
 {
@@ -96,7 +96,7 @@ pub fn all_counted<C: Counting>(
     names: &[Listed<u8>],
 ) -> Result<Listed<Counted>, Fault>
     ensures counted { C.is_honest rows.new → IfOk result (λ all.
-        all ≡ map (counted (C.rows rows.old)) names.now) }
+        all ≡ map (institution_counts (C.rows rows.old)) names.now) }
     ensures leads { OnOk result (C.leads rows.old rows.new) }
     ensures fails { IfErr result (C.fails rows.old rows.new) }
 {

@@ -3,7 +3,7 @@ ghost use Rattle.std.specs.Prelude.{◌≡◌, IfOk, OnOk, OnErr};
 ghost use Rattle.dq_core.specs.Looking.{Looked};
 ghost use Rattle.dq_core.specs.Showing.{found_for};
 ghost use Rattle.dq_request.specs.Searches.{identifier_of};
-ghost use Rattle.dq_console.specs.Requests.{kind_of, is_steps, shown, found_response, steps_response, search_response, LooksInPart};
+ghost use Rattle.dq_console.specs.Requests.{kind_of, is_steps, page_window, found_response, steps_response, search_response, LooksInPart};
 
 use dq_core::laws::looks_are_one_look;
 use dq_core::{Fault, SearchKind, ShownPage};
@@ -35,7 +35,7 @@ fn is_steps(subject: Subject) -> bool
 }
 
 fn shown(page: Page) -> ShownPage
-    ensures { result ≡ shown page }
+    ensures { result ≡ page_window page }
 {
     ShownPage {
         offset: page.offset,
@@ -72,7 +72,7 @@ fn search_by_keys<T: Tables>(
     ensures told { (T.state turner.new.server.tables).honest → IfOk result (λ response. response
         ≡ found_response (found_for turner.old.server.institutions search.now.institution
         (T.state turner.old.server.tables).rows (kind_of search.now.subject)
-        (identifier_of search.now.subject search.now.keys) (shown search.now.page))) }
+        (identifier_of search.now.subject search.now.keys) (page_window search.now.page))) }
     ensures looked { OnOk result (Looked T.state turner.old.server turner.new.server) }
     ensures hold { turner.new.hold ≡ turner.old.hold }
     ensures fault { OnOk result (turner.new.fault ≡ turner.old.fault) }

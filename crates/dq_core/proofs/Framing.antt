@@ -11,10 +11,10 @@ use Rattle.dq_match.specs.declared.responses.Found.{Found}
 use Rattle.dq_config.specs.declared.config.Institution.{Institution}
 use Rattle.dq_tables.specs.declared.row.Row.{Row}
 use Rattle.dq_tables.specs.Rows.{Record, of}
-use Rattle.dq_archive.specs.declared.later.Added.{Added}
-use Rattle.dq_archive.specs.Later.{lasting, without, IsTold}
+use Rattle.dq_archive.specs.declared.additions.Addition.{Addition}
+use Rattle.dq_archive.specs.Additions.{lasting_records, without, IsTold}
 use Rattle.dq_find.specs.OpenSearches.{left_of}
-use Rattle.dq_find.proofs.Lasting.{left_by}
+use Rattle.dq_find.proofs.LastingRecords.{left_by}
 use Rattle.dq_core.specs.declared.answers.Answers.{Answers}
 use Rattle.dq_core.specs.declared.answers.Answers.TheVariants as answers
 use Rattle.dq_core.specs.declared.pages.OpenQuery.{OpenQuery as HeldQuery}
@@ -24,40 +24,40 @@ use Rattle.dq_core.specs.Connections.{Connection}
 use Rattle.dq_core.specs.Pages.{OpenQuery}
 use Rattle.dq_core.specs.Queries.{at_hand, to_be_found, status_of, optional_of, found_left, open_query_of, records_since}
 use Rattle.dq_core.specs.Services.{responses}
-use Rattle.dq_core.specs.Slots.{IsBegunAt, query_at, is_home, IsAt, AreAt}
+use Rattle.dq_core.specs.Slots.{IsBegunAt, query_at, is_of_institution, IsAt, AreAt}
 use Rattle.dq_core.specs.OpenAssociations.{institution_index}
 use Rattle.dq_core.proofs.OpenAssociations.{listed-place}
 
 -- ---- one query
 
-dropped : (log told : List Added) (since : ℕ) → since ≤ length log → drop since (log ++ told) ≡ drop since log ++ told
+dropped : (log told : List Addition) (since : ℕ) → since ≤ length log → drop since (log ++ told) ≡ drop since log ++ told
 dropped log told zero le = refl
 dropped [] told (suc since) le = absurd (omega (arith, le))
 dropped (x ∷ log) told (suc since) le = dropped log told since (omega (arith, le))
 
-found_alike : (one other : List Record) → lasting one ≡ lasting other → (it : Answers) → to_be_found one it ≡ to_be_found other it
+found_alike : (one other : List Record) → lasting_records one ≡ lasting_records other → (it : Answers) → to_be_found one it ≡ to_be_found other it
 found_alike one other same (answers.Found queue) = refl
 found_alike one other same (answers.Lazy lazy) = left_by lazy.search one other same
 
-found_left-alike : (one other : List Record) → lasting one ≡ lasting other → (it : Answers) → found_left one it ≡ found_left other it
+found_left-alike : (one other : List Record) → lasting_records one ≡ lasting_records other → (it : Answers) → found_left one it ≡ found_left other it
 found_left-alike one other same it =
     ap (λ (more : List ElementList). record { status = status_of it; optional = optional_of it; answers = at_hand it ++ more }) (found_alike one other same it)
 
-pub query_alike : (one other : List Record) → lasting one ≡ lasting other → (q : HeldQuery) → open_query_of one q ≡ open_query_of other q
+pub query_alike : (one other : List Record) → lasting_records one ≡ lasting_records other → (q : HeldQuery) → open_query_of one q ≡ open_query_of other q
 query_alike one other same q =
     ap (λ (f : Found). record { context = q.context.id; limit = q.limit; left = responses q.context q.command f })
     (found_left-alike one other same q.answers)
 
 -- what is told since is left out
-told_alike : {name : List ℕ} {before now : List Row} {log new : List Added} → IsTold name before now log new → (since : ℕ) → since ≤ length log
-    → lasting (records_since name now new since) ≡ lasting (records_since name before log since)
+told_alike : {name : List ℕ} {before now : List Row} {log new : List Addition} → IsTold name before now log new → (since : ℕ) → since ≤ length log
+    → lasting_records (records_since name now new since) ≡ lasting_records (records_since name before log since)
 told_alike {name = name} {now = now} {log = log} told since le =
-    ap (λ (l : List Added). lasting (without l (of name now))) (ap (drop since) told.behind ∙ dropped log told.told since le)
+    ap (λ (l : List Addition). lasting_records (without l (of name now))) (ap (drop since) told.behind ∙ dropped log told.told since le)
     ∙ told.stays (drop since log)
 
 -- ---- the queries of all slots
 
-module _ (institutions : List Institution) (rows now : List Row) (logs new : List (List Added)) where
+module _ (institutions : List Institution) (rows now : List Row) (logs new : List (List Addition)) where
   -- a query began before, and finds what it would have found
   abbrev pub Kept : Option (List ℕ) → Option HeldQuery → Type 0
   Kept home query =
@@ -75,7 +75,7 @@ module _ (institutions : List Institution) (rows now : List Row) (logs new : Lis
   pub same-kept : (home : List ℕ) (q : HeldQuery) → of home now ≡ of home rows → log_of institutions new home ≡ log_of institutions logs home
       → Kept (Some home) (Some q)
   same-kept home q records log begun = (
-    (subst (λ (l : List Added). q.since ≤ length l) (sym log) begun.0, begun.1, begun.2, begun.3),
+    (subst (λ (l : List Addition). q.since ≤ length l) (sym log) begun.0, begun.1, begun.2, begun.3),
     (λ i. Some (open_query_of (without (drop q.since (log i)) (records i)) q)),
   )
 
@@ -101,14 +101,14 @@ module _ (institutions : List Institution) (rows now : List Row) (logs new : Lis
     all-kept told (Some home) (Some q) = kept-by home q (bytes_eq home name) refl
         (λ f. told-kept home q (subst (λ (n : List ℕ). IsTold n rows now (log_of institutions logs n) (log_of institutions new n)) (sym f) told))
 
-    pub unsearched-kept : (home : Option (List ℕ)) (query : Option HeldQuery) → (is_home name home && is_some query) ≡ false → Kept home query
+    pub unsearched-kept : (home : Option (List ℕ)) (query : Option HeldQuery) → (is_of_institution name home && is_some query) ≡ false → Kept home query
     unsearched-kept home None free = no-query home
     unsearched-kept None (Some q) free = λ begun. absurd begun
     unsearched-kept (Some home) (Some q) free = kept-by home q (bytes_eq home name) refl
         (λ f. absurd (false≢true (sym free ∙ (λ i. (bytes_eq-Decides home name).1 f i && true))))
 
   -- each slot keeps what its connection asks
-  pub all-stay : (slots : Slab Slot) → ((place : ℕ) (slot : Slot) → get slots place ≡ Some slot → Kept slot.home slot.query)
+  pub all-stay : (slots : Slab Slot) → ((place : ℕ) (slot : Slot) → get slots place ≡ Some slot → Kept slot.institution slot.query)
       → (es : List (ℕ × ℕ)) (cs : List Connection) → AreAt institutions rows logs slots es cs → AreAt institutions now new slots es cs
   all-stay slots kept [] [] h = tt
   all-stay slots kept [] (c ∷ cs) h = absurd h
@@ -128,9 +128,9 @@ module _ (institutions : List Institution) (rows now : List Row) (logs new : Lis
 
 -- ---- logs
 
-module _ (institutions : List Institution) (logs : List (List Added)) (i : Institution) (listed : Contains institutions i)
-    (many : length logs ≡ length institutions) (log : List Added) where
-  abbrev with-it : List (List Added)
+module _ (institutions : List Institution) (logs : List (List Addition)) (i : Institution) (listed : Contains institutions i)
+    (many : length logs ≡ length institutions) (log : List Addition) where
+  abbrev with-it : List (List Addition)
   with-it = with_log logs (institution_index institutions i.name) log
 
   own-at : (o : Option ℕ) → (place : ℕ) → o ≡ Some place → place < length logs → log_at (with_log logs o log) o ≡ log

@@ -1,6 +1,6 @@
 -- Looks one after the other.
 use Rattle.std.proofs.Common.{refl, ◌∙◌}
-use Rattle.dq_tables.specs.Keeping.{State}
+use Rattle.dq_tables.specs.TableStates.{State}
 use Rattle.dq_core.specs.ServerView.{ServerView}
 use Rattle.dq_core.specs.Looking.{Looked}
 use Rattle.dq_core.proofs.TableCalls.{goes-start, goes-then}

@@ -11,7 +11,7 @@ use Rattle.dq_assoc.specs.declared.agreement.Agreement.{Agreement}
 use Rattle.dq_config.specs.declared.config.Institution.{Institution}
 use Rattle.dq_core.specs.Connections.{Connection, new_connection, connection_in, without, with_connection}
 use Rattle.dq_core.specs.Owners.{owner, is_institution, live_of}
-use Rattle.dq_core.specs.Slots.{home_of, is_home}
+use Rattle.dq_core.specs.Slots.{associated_institution, is_of_institution}
 use Rattle.dq_core.specs.OpenAssociations.{institution_index, count_in, tally_of_name, one_more, one_less, retallied_by}
 
 abbrev most : ℕ
@@ -136,12 +136,12 @@ module _ (institutions : List Institution) (counts : List ℕ) where
       rw placed.1 (ended-at home placed.0 placed.1 placed.2 d (omega (arith, count_is, some)) name (bytes_eq home name) refl)
 
   -- an association opened, or ended, or neither
-  pub retally : (q : Option Institution) (home next : Option (List ℕ)) (a b : Option Agreement) → home ≡ home_of q a → next ≡ home_of q b
+  pub retally : (q : Option Institution) (home next : Option (List ℕ)) (a b : Option Agreement) → home ≡ associated_institution q a → next ≡ associated_institution q b
       → length counts ≡ length institutions → ((i : Institution) → q ≡ Some i → Contains institutions i)
       → ((name : List ℕ) → tally_of_name institutions counts name < most)
-      → ((name : List ℕ) → bit (is_home name home) ≤ tally_of_name institutions counts name) → (name : List ℕ)
-      → tally_of_name institutions (retallied_by institutions counts q (is_some home) (is_some next)) name + bit (is_home name home)
-      ≡ tally_of_name institutions counts name + bit (is_home name next)
+      → ((name : List ℕ) → bit (is_of_institution name home) ≤ tally_of_name institutions counts name) → (name : List ℕ)
+      → tally_of_name institutions (retallied_by institutions counts q (is_some home) (is_some next)) name + bit (is_of_institution name home)
+      ≡ tally_of_name institutions counts name + bit (is_of_institution name next)
   retally None home next a b e f counted listed small more name = rw (e, f) refl
   retally (Some i) home next None None e f counted listed small more name = rw (e, f) refl
   retally (Some i) home next (Some agreed) (Some later) e f counted listed small more name = rw (e, f) refl

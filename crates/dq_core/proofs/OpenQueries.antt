@@ -7,20 +7,20 @@ use Rattle.dq_assoc.specs.declared.agreement.Agreement.{Agreement}
 use Rattle.dq_config.specs.declared.config.Institution.{Institution}
 use Rattle.dq_config.specs.Routing.{institution_named}
 use Rattle.dq_tables.specs.declared.row.Row.{Row}
-use Rattle.dq_archive.specs.declared.later.Added.{Added}
+use Rattle.dq_archive.specs.declared.additions.Addition.{Addition}
 use Rattle.dq_core.specs.declared.pages.OpenQuery.{OpenQuery as HeldQuery}
 use Rattle.dq_core.specs.Additions.{log_at, log_of, owner_place}
 use Rattle.dq_core.specs.Pages.{OpenQuery}
 use Rattle.dq_core.specs.Queries.{query_then, query_by, IsBegun}
-use Rattle.dq_core.specs.Slots.{home_of, is_home, institution_at, IsBegunAt, query_at}
+use Rattle.dq_core.specs.Slots.{associated_institution, is_of_institution, institution_at, IsBegunAt, query_at}
 
 -- no C-FIND of an institution is open in a slot
 abbrev pub IsFree : Option Institution → Option (List ℕ) → Option HeldQuery → Type 0
 IsFree None home query = ⊥
-IsFree (Some i) home query = (is_home i.name home && is_some query) ≡ false
+IsFree (Some i) home query = (is_of_institution i.name home && is_some query) ≡ false
 
-module _ (institutions : List Institution) (rows : List Row) (logs : List (List Added)) where
-  none-of : (q : Option Institution) (home : Option (List ℕ)) (log : List Added) → query_by q rows log None ≡ query_at institutions rows logs home None
+module _ (institutions : List Institution) (rows : List Row) (logs : List (List Addition)) where
+  none-of : (q : Option Institution) (home : Option (List ℕ)) (log : List Addition) → query_by q rows log None ≡ query_at institutions rows logs home None
   none-of None None log = refl
   none-of None (Some home) log = refl
   none-of (Some i) None log = refl
@@ -28,24 +28,24 @@ module _ (institutions : List Institution) (rows : List Row) (logs : List (List 
 
   -- ---- as it is taken
 
-  abbrev pub Comes : Option Institution → Option (List ℕ) → Option HeldQuery → List Added → Type 0
+  abbrev pub Comes : Option Institution → Option (List ℕ) → Option HeldQuery → List Addition → Type 0
   Comes q home query log = (query_by q rows log query ≡ query_at institutions rows logs home query) × IsBegun log query
 
-  searched : (i : Institution) (home : List ℕ) (query : HeldQuery) (log : List Added) → home ≡ i.name
+  searched : (i : Institution) (home : List ℕ) (query : HeldQuery) (log : List Addition) → home ≡ i.name
       → IsBegunAt institutions logs (Some home) (Some query) → log ≡ log_of institutions logs i.name → Comes (Some i) (Some home) (Some query) log
   searched i home query log name begun is = (
-    ap (λ (l : List Added). query_then i.name rows l (Some query)) is ∙ (λ j. query_then (sym name j) rows (log_of institutions logs (sym name j)) (Some query)),
-    subst (λ (l : List Added). query.since ≤ length l) (sym (is ∙ ap (log_of institutions logs) (sym name))) begun.0,
+    ap (λ (l : List Addition). query_then i.name rows l (Some query)) is ∙ (λ j. query_then (sym name j) rows (log_of institutions logs (sym name j)) (Some query)),
+    subst (λ (l : List Addition). query.since ≤ length l) (sym (is ∙ ap (log_of institutions logs) (sym name))) begun.0,
   )
 
   not-free : (i : Institution) (home : List ℕ) (next : Option (List ℕ)) (query : HeldQuery) → home ≡ i.name
       → (Some home ≡ None) ⊎ (next ≡ Some home) → IsFree (Some i) next (Some query) → ⊥
   not-free i home next query name (inl none) free = cc
   not-free i home next query name (inr same) free =
-      false≢true (sym (subst (λ (h : Option (List ℕ)). (is_home i.name h && true) ≡ false) same free) ∙ (λ j. (bytes_eq-Decides home i.name).1 name j && true))
+      false≢true (sym (subst (λ (h : Option (List ℕ)). (is_of_institution i.name h && true) ≡ false) same free) ∙ (λ j. (bytes_eq-Decides home i.name).1 name j && true))
 
-  pub comes : (q : Option Institution) (agreed : Option Agreement) (home next : Option (List ℕ)) (query : Option HeldQuery) (log : List Added)
-      → home ≡ home_of q agreed → (home ≡ None) ⊎ (next ≡ home) → IsBegunAt institutions logs home query
+  pub comes : (q : Option Institution) (agreed : Option Agreement) (home next : Option (List ℕ)) (query : Option HeldQuery) (log : List Addition)
+      → home ≡ associated_institution q agreed → (home ≡ None) ⊎ (next ≡ home) → IsBegunAt institutions logs home query
       → (log ≡ log_at logs (owner_place institutions q)) ⊎ IsFree q next query → Comes q home query log
   comes q agreed home next None log is stays begun taken = (none-of q home log, tt)
   comes q agreed None next (Some query) log is stays begun taken = absurd begun
@@ -58,11 +58,11 @@ module _ (institutions : List Institution) (rows : List Row) (logs : List (List 
 
   -- ---- as it is answered
 
-  abbrev pub Stays : Option Institution → Option (List ℕ) → Option HeldQuery → List Added → Type 0
+  abbrev pub Stays : Option Institution → Option (List ℕ) → Option HeldQuery → List Addition → Type 0
   Stays q home query log = (query_at institutions rows logs home query ≡ query_by q rows log query) × IsBegunAt institutions logs home query
 
-  pub goes-on : (q : Option Institution) (agreed : Option Agreement) (home : Option (List ℕ)) (query : Option HeldQuery) (log : List Added)
-      → home ≡ home_of q agreed → (home ≡ None → query ≡ None)
+  pub goes-on : (q : Option Institution) (agreed : Option Agreement) (home : Option (List ℕ)) (query : Option HeldQuery) (log : List Addition)
+      → home ≡ associated_institution q agreed → (home ≡ None → query ≡ None)
       → ((i : Institution) → q ≡ Some i → (log_of institutions logs i.name ≡ log) × (institution_named institutions i.name ≡ Some i))
       → IsBegun log query → Stays q home query log
   goes-on q agreed home None log is homeless logged begun = (sym (none-of q home log), tt)
@@ -75,7 +75,7 @@ module _ (institutions : List Institution) (rows : List Row) (logs : List (List 
       let same : log_of institutions logs home ≡ log = ap (log_of institutions logs) name ∙ it.0 in (
         (λ j. query_then (name j) rows (same j) (Some query)),
         (
-          subst (λ (l : List Added). query.since ≤ length l) (sym same) begun,
+          subst (λ (l : List Addition). query.since ≤ length l) (sym same) begun,
           i,
           ap (institution_named institutions) name ∙ it.1,
           sym name,
@@ -84,7 +84,7 @@ module _ (institutions : List Institution) (rows : List Row) (logs : List (List 
 
   -- ---- as it is pulled
 
-  pub pulled-at : (home : Option (List ℕ)) (i : Institution) (query : HeldQuery) (log : List Added) → institution_at institutions home ≡ Some i
+  pub pulled-at : (home : Option (List ℕ)) (i : Institution) (query : HeldQuery) (log : List Addition) → institution_at institutions home ≡ Some i
       → log ≡ log_of institutions logs i.name → IsBegunAt institutions logs home (Some query) → (left : Option HeldQuery)
       → query_at institutions rows logs home left ≡ query_then i.name rows log left
   pulled-at None i query log there is begun left = cc
@@ -92,4 +92,4 @@ module _ (institutions : List Institution) (rows : List Row) (logs : List (List 
       let both : Some i ≡ Some begun.1 = sym there ∙ begun.2 in
       let same : i ≡ begun.1 = cc in
       let name : home ≡ i.name = sym begun.3 ∙ ap (λ (x : Institution). x.name) (sym same) in
-      (λ k. query_then (name k) rows (log_of institutions logs (name k)) left) ∙ ap (λ (l : List Added). query_then i.name rows l left) (sym is)
+      (λ k. query_then (name k) rows (log_of institutions logs (name k)) left) ∙ ap (λ (l : List Addition). query_then i.name rows l left) (sym is)

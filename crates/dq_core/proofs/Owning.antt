@@ -21,7 +21,7 @@ use Rattle.dq_core.specs.declared.slot.Slot.{Slot}
 use Rattle.dq_core.specs.Answers.{request_in, inputs_added}
 use Rattle.dq_core.specs.Connections.{Connection}
 use Rattle.dq_core.specs.Owners.{is_sound_request, owner_by, owner, is_institution}
-use Rattle.dq_core.specs.Slots.{home_of, IsHeld, is_home, routed_first}
+use Rattle.dq_core.specs.Slots.{associated_institution, IsHeld, is_of_institution, routed_first}
 
 -- the laws of the crates below
 abbrev pub Waits : Type 0
@@ -72,32 +72,32 @@ added-is stream piece xs e = ap (drop (length (inputs stream))) e ∙ drop-appen
 
 -- ---- counts
 
-home-named : (name : List ℕ) (o : Option Institution) (agreement : Agreement) → is_home name (home_of o (Some agreement)) ≡ is_institution name o
+home-named : (name : List ℕ) (o : Option Institution) (agreement : Agreement) → is_of_institution name (associated_institution o (Some agreement)) ≡ is_institution name o
 home-named name None agreement = refl
 home-named name (Some i) agreement = refl
 
-pub no-home : (o : Option Institution) → home_of o None ≡ None
+pub no-home : (o : Option Institution) → associated_institution o None ≡ None
 no-home None = refl
 no-home (Some i) = refl
 
 counted-at : Waits → (institutions : List Institution) (name stream : List ℕ) (association : HeldState) (home : Option (List ℕ)) → (pdus_in stream).fault ≡ None
     → AssociationAfter (pdus_in stream).list association → is_closed (state_of association) ≡ false
-    → home ≡ home_of (owner institutions stream) (agreement_in association) → is_home name home ≡ is_institution name (owner institutions stream)
+    → home ≡ associated_institution (owner institutions stream) (agreement_in association) → is_of_institution name home ≡ is_institution name (owner institutions stream)
 counted-at waits institutions name stream held.Waiting home f a u e =
     rw (e, no-home (owner institutions stream), no-inputs_yet waits stream held.Waiting f a refl) refl
 counted-at waits institutions name stream (held.Open agreement assembly) home f a u e = rw e (home-named name (owner institutions stream) agreement)
 counted-at waits institutions name stream (held.Closed b) home f a u e = cc
 
--- the home of a slot is that of its connection's owner
+-- the institution of a slot is the owner of its connection
 pub counted-held : Waits → (institutions : List Institution) (name : List ℕ) (slot : Slot) (c : Connection) → IsHeld institutions slot c
-    → is_home name slot.home ≡ is_institution name (owner institutions c.stream)
+    → is_of_institution name slot.institution ≡ is_institution name (owner institutions c.stream)
 counted-held waits institutions name slot c h =
     let s = h.stands in
     let first = association_from held.Waiting (pdus_in c.stream).list in
     let stands = s.association.stands in
-    counted-at waits institutions name c.stream first slot.home h.faultless (record { stands = refl })
+    counted-at waits institutions name c.stream first slot.institution h.faultless (record { stands = refl })
     (ap is_closed (sym (stands_state slot.association first stands)) ∙ s.not_closed)
-    (s.home ∙ ap (home_of (owner institutions c.stream)) (stands_agreement slot.association first stands))
+    (s.slot_institution ∙ ap (associated_institution (owner institutions c.stream)) (stands_agreement slot.association first stands))
 
 -- ---- owners
 

@@ -32,7 +32,7 @@ use Rattle.dq_core.specs.Connections.{Connection, with_piece}
 use Rattle.dq_core.specs.Owners.{owner, live_of}
 use Rattle.dq_core.specs.Shared.{World, answer_by}
 use Rattle.dq_core.specs.Effects.{agreement_after, taken_inputs}
-use Rattle.dq_core.specs.Slots.{home_of, StandsAt, IsHeld, IsTaken, Took, verdict_for, owner_with, routed_first, connection_answer, AreAlike}
+use Rattle.dq_core.specs.Slots.{associated_institution, StandsAt, IsHeld, IsTaken, Took, verdict_for, owner_with, routed_first, connection_answer, AreAlike}
 use Rattle.dq_core.proofs.Composing.{none_stands}
 use Rattle.dq_core.proofs.isolation.Streams.{AddsInputs, owner-stays}
 use Rattle.dq_core.proofs.Alike.{alike-open, alike-waiting, alike-stranger, alike-unsound, unsound-closes}
@@ -63,7 +63,7 @@ record Before (institutions : List Institution) (stream : List ℕ) (h : HeldSta
   faultless : (pdus_in stream).fault ≡ None
   association : AssociationAfter (pdus_in stream).list h
   not_closed : is_closed (state_of h) ≡ false
-  home_is : home ≡ home_of (owner institutions stream) (agreement_in h)
+  home_is : home ≡ associated_institution (owner institutions stream) (agreement_in h)
   owned : (a : Agreement) → agreement_in h ≡ Some a → IsSome (owner institutions stream)
 
 -- ---- what is taken is answered alike, where what is served is over what was agreed on
@@ -104,14 +104,14 @@ module _ (institutions : List Institution) (laws : Laws institutions) (c : Conne
       rw (whole, b.home_is, no-home (owner institutions c.stream)) (first-owner institutions pdus fault)
 
   -- the owner of an open connection has it from then on
-  has-open : (home : Option (List ℕ)) (a : Agreement) → home ≡ home_of (owner institutions c.stream) (Some a) → IsSome (owner institutions c.stream)
+  has-open : (home : Option (List ℕ)) (a : Agreement) → home ≡ associated_institution (owner institutions c.stream) (Some a) → IsSome (owner institutions c.stream)
       → (i : Institution) × (owner institutions c.stream ≡ Some i) × (owner_after ≡ Some i) × (owner_with institutions home pdus ≡ Some i)
   has-open home a e some =
       let i = some-of (owner institutions c.stream) some in (
         i.0,
         i.1,
         owner-stays laws.adds institutions c.stream piece i.0 i.1,
-        ap (λ (h : Option (List ℕ)). owner_with institutions h pdus) (e ∙ ap (λ (o : Option Institution). home_of o (Some a)) i.1)
+        ap (λ (h : Option (List ℕ)). owner_with institutions h pdus) (e ∙ ap (λ (o : Option Institution). associated_institution o (Some a)) i.1)
             ∙ owner-named institutions laws.names (request_in (inputs c.stream)) i.0 i.1,
       )
 
@@ -132,12 +132,12 @@ module _ (institutions : List Institution) (laws : Laws institutions) (c : Conne
 
   -- the slot stands for the institution that has the connection
   stands-at : (h : HeldState) (home : Option (List ℕ)) → Before institutions c.stream h home → let q = owner_with institutions home pdus in
-      (home ≡ home_of q (agreement_in h)) × ((a : Agreement) → agreement_in h ≡ Some a → IsSome q)
+      (home ≡ associated_institution q (agreement_in h)) × ((a : Agreement) → agreement_in h ≡ Some a → IsSome q)
   stands-at held.Waiting home b =
       (b.home_is ∙ no-home (owner institutions c.stream) ∙ sym (no-home (owner_with institutions home pdus)), λ a e. cc)
   stands-at (held.Open a assembly) home b =
       let has = has-open home a b.home_is (b.owned a refl) in (
-        b.home_is ∙ ap (λ (o : Option Institution). home_of o (Some a)) (has.1 ∙ sym has.3),
+        b.home_is ∙ ap (λ (o : Option Institution). associated_institution o (Some a)) (has.1 ∙ sym has.3),
         λ d e. some-is (owner_with institutions home pdus) has.0 has.3,
       )
   stands-at (held.Closed agreed) home b = absurd (false≢true (sym b.not_closed))
@@ -170,7 +170,7 @@ pub record TookBy (q : Option Institution) (verdict : Verdict) (pdus : List Pdu)
   pub number : new.number ≡ old.number
   pub inbox : new.inbox ≡ old.inbox
   pub query : new.query ≡ old.query
-  pub home : (held_state old.association ≡ Waiting) ⊎ (new.home ≡ old.home)
+  pub slot_institution : (held_state old.association ≡ Waiting) ⊎ (new.institution ≡ old.institution)
 
 -- the inbox of the connection was fed the piece
 pub record FedBy (stream piece : List ℕ) (pdus : List Pdu) (fault : Option PduFault) (inbox : Inbox) : Type 0 where
@@ -187,7 +187,7 @@ nowhere-none q count e = rw e refl
 module _ (institutions : List Institution) (laws : Laws institutions) (world : World) (c : Connection) (piece : List ℕ) (count : List ℕ → ℕ)
     (old : Slot) (pdus : List Pdu) (fault : Option PduFault) (inbox : Inbox) where
   abbrev owner_now : Option Institution
-  owner_now = owner_with institutions old.home pdus
+  owner_now = owner_with institutions old.institution pdus
 
   -- it is one of the institutions
   owner-listed : (home : Option (List ℕ)) (i : Institution) → owner_with institutions home pdus ≡ Some i → Contains institutions i
@@ -207,12 +207,12 @@ module _ (institutions : List Institution) (laws : Laws institutions) (world : W
     stands : Stands old.association first
     stands = is_held.stands.association.stands
 
-    at-first : Before institutions c.stream first old.home
+    at-first : Before institutions c.stream first old.institution
     at-first = record {
       faultless = is_held.faultless;
       association = record { stands = refl };
       not_closed = ap is_closed (sym (stands_state old.association first stands)) ∙ is_held.stands.not_closed;
-      home_is = is_held.stands.home ∙ ap (home_of (owner institutions c.stream)) (stands_agreement old.association first stands);
+      home_is = is_held.stands.slot_institution ∙ ap (associated_institution (owner institutions c.stream)) (stands_agreement old.association first stands);
       owned = λ a e. is_held.stands.owned a (stands_agreement old.association first stands ∙ e);
     }
 
@@ -222,19 +222,19 @@ module _ (institutions : List Institution) (laws : Laws institutions) (world : W
     waits-homeless (held.Open a assembly) home b waiting = cc
     waits-homeless (held.Closed agreed) home b waiting = absurd (false≢true (sym b.not_closed))
 
-    still-home : (new : Slot) → (held_state old.association ≡ Waiting) ⊎ (new.home ≡ old.home) → (old.home ≡ None) ⊎ (new.home ≡ old.home)
-    still-home new (inl waiting) = inl (waits-homeless first old.home at-first (sym (stands_state old.association first stands) ∙ waiting))
+    still-home : (new : Slot) → (held_state old.association ≡ Waiting) ⊎ (new.institution ≡ old.institution) → (old.institution ≡ None) ⊎ (new.institution ≡ old.institution)
+    still-home new (inl waiting) = inl (waits-homeless first old.institution at-first (sym (stands_state old.association first stands) ∙ waiting))
     still-home new (inr same) = inr same
 
     whole : inputs (c.stream ++ piece) ≡ inputs c.stream ++ inputs_from first pdus fault
     whole = added laws.further c.stream piece pdus fault first is_held.faultless (record { stands = refl }) fed.list fed.fault_is
 
     mid-stands : StandsAt owner_now (fed_slot old inbox) (pdus_in c.stream).list
-    mid-stands = let s = stands-at institutions laws c piece pdus fault first old.home at-first in
+    mid-stands = let s = stands-at institutions laws c piece pdus fault first old.institution at-first in
         record {
           association = is_held.stands.association;
           not_closed = is_held.stands.not_closed;
-          home = s.0 ∙ ap (home_of owner_now) (sym (stands_agreement old.association first stands));
+          slot_institution = s.0 ∙ ap (associated_institution owner_now) (sym (stands_agreement old.association first stands));
           owned = λ a e. s.1 a (sym (stands_agreement old.association first stands) ∙ e);
         }
 
@@ -255,13 +255,13 @@ module _ (institutions : List Institution) (laws : Laws institutions) (world : W
           AreAlike o (answer_by o institutions world c piece) owner_now
           (connection_answer owner_now world.rows (held_agreement new.association) c.query given)
       alike-answer counts =
-          told-at institutions laws c piece pdus fault world count counts first old.home (held_agreement new.association) at-first whole
+          told-at institutions laws c piece pdus fault world count counts first old.institution (held_agreement new.association) at-first whole
           (no_messages (took.agrees first stands (pdus_in c.stream).list mid-stands))
 
-      still-held : t.step.close ≡ false → IsHeld institutions new (with_piece c piece c.query) × (new.home ≡ home_of owner_now (held_agreement new.association))
+      still-held : t.step.close ≡ false → IsHeld institutions new (with_piece c piece c.query) × (new.institution ≡ associated_institution owner_now (held_agreement new.association))
       still-held close =
           let s = took.stands (pdus_in c.stream).list mid-stands (nowhere-none owner_now count) close in
-          let same = same-owner institutions laws c piece pdus fault (verdict_for count owner_now) first old.home at-first whole
+          let same = same-owner institutions laws c piece pdus fault (verdict_for count owner_now) first old.institution at-first whole
           (sym is_given.step.close ∙ close) in (
             record {
               number = took.number ∙ is_held.number;
@@ -269,7 +269,7 @@ module _ (institutions : List Institution) (laws : Laws institutions) (world : W
               faultless = fed.fault_is ∙ s.0;
               stands = rw (← same, fed.list) s.1;
             },
-            s.1.home,
+            s.1.slot_institution,
           )
 
   -- a piece on the connection that has a slot
@@ -282,9 +282,9 @@ module _ (institutions : List Institution) (laws : Laws institutions) (world : W
         taken = given is_held fed;
         stands = is_given is_held fed new t now;
         answer = alike-answer is_held fed new t now counts;
-        home = (mid-stands is_held fed).home;
+        slot_institution = (mid-stands is_held fed).slot_institution;
         query = by.query;
-        stays = still-home is_held fed new by.home;
+        stays = still-home is_held fed new by.slot_institution;
         held = λ close. still-held is_held fed new t now ((is_given is_held fed new t now).step.close ∙ close);
-        listed = owner-listed old.home;
+        listed = owner-listed old.institution;
       })

@@ -17,7 +17,7 @@ use Rattle.dq_config.specs.Limits.{limits_of}
 use Rattle.dq_match.specs.declared.responses.Found.{Found}
 use Rattle.dq_tables.specs.declared.row.Row.{Row}
 use Rattle.dq_tables.specs.Rows.{of, by, after, Operation, after_all}
-use Rattle.dq_core.specs.Services.{responses, message_outcome, served}
+use Rattle.dq_core.specs.Services.{responses, message_outcome, service_of_message}
 use Rattle.dq_core.specs.Pages.{OpenQuery, answered_message_id, rest, page, cancel_reaction, reaction}
 use Rattle.dq_core.specs.Stepping.{IsPartOf}
 use Rattle.dq_core.specs.Effects.{AnswerApplied, AnswerPartlyApplied, served_answer}
@@ -37,7 +37,7 @@ module _ (i : Institution) (a : Agreement) (m : Message) where
 
   -- a message that has no response
   stray-by : (r : List Row) (x : List ℕ) (b : Bool) → (m.command.code == c_cancel) ≡ b → context_of a m.context ≡ None → Does None r r x x None
-  unfolding served reaction
+  unfolding service_of_message reaction
   stray-by r x true h e = rw h (record { octets = sym (append-nil x); rows = refl; query = refl })
   stray-by r x false h e = rw (h, e) (record { octets = sym (append-nil x); rows = refl; query = refl })
 
@@ -46,7 +46,7 @@ module _ (i : Institution) (a : Agreement) (m : Message) where
 
   module _ (c : AcceptedContext) (e : context_of a m.context ≡ Some c) where
     pub did-cancel : (r : List Row) (x : List ℕ) → (m.command.code == c_cancel) ≡ true → Does None r r x x None
-    unfolding served reaction
+    unfolding service_of_message reaction
     did-cancel r x h = rw h (record { octets = sym (append-nil x); rows = refl; query = refl })
 
     -- the responses to the message, of which none was sent
@@ -58,7 +58,7 @@ module _ (i : Institution) (a : Agreement) (m : Message) where
         → (m.command.code == c_cancel) ≡ false
         → found ≡ (message_outcome a c (limits_of i) m (of i.name r0)).0 → r1 ≡ after (by i.name (message_outcome a c (limits_of i) m (of i.name r0)).1) r0
         → query ≡ unsent m.command found → x1 ≡ x0 ++ (page query).octets → next ≡ (page query).query → Does None r0 r1 x0 x1 next
-    unfolding served reaction
+    unfolding service_of_message reaction
     did-served r0 r1 x0 x1 found query next h answered done sent added left =
         let there = found_id m.context a.contexts c e in
         let of_message : OpenQuery =
@@ -76,7 +76,7 @@ module _ (i : Institution) (a : Agreement) (m : Message) where
     pub part-served : (r0 r1 : List Row) (IsLeft : List Row → Type 0) → (m.command.code == c_cancel) ≡ false
         → r1 ≡ after (by i.name (message_outcome a c (limits_of i) m (of i.name r0)).1) r0 → ((r : List Row) → IsLeft r → r ≡ r1)
         → DoesPart None r0 r1 IsLeft
-    unfolding served reaction
+    unfolding service_of_message reaction
     part-served r0 r1 IsLeft h done only = rw (e, h) (record {
       done = by i.name (message_outcome a c (limits_of i) m (of i.name r0)).1 ∷ [];
       later = [];
@@ -89,7 +89,7 @@ module _ (i : Institution) (a : Agreement) (m : Message) where
     pub part-unserved : (r0 r1 : List Row) (IsLeft : List Row → Type 0) → (m.command.code == c_cancel) ≡ false → r1 ≡ r0
         → ((r : List Row) → IsLeft r → (r ≡ r0) ⊎ (r ≡ after (by i.name (message_outcome a c (limits_of i) m (of i.name r0)).1) r0))
         → DoesPart None r0 r1 IsLeft
-    unfolding served reaction
+    unfolding service_of_message reaction
     part-unserved r0 r1 IsLeft h same crash = rw (e, h, same) (record {
       done = [];
       later = by i.name (message_outcome a c (limits_of i) m (of i.name r0)).1 ∷ [];

@@ -10,7 +10,7 @@ use Rattle.std.proofs.lemmas.Bool.Decides.{nat_tests}
 use Rattle.slab.specs.Slab.{Slab, get}
 use Rattle.dq_config.specs.declared.config.Institution.{Institution}
 use Rattle.dq_tables.specs.declared.row.Row.{Row}
-use Rattle.dq_archive.specs.declared.later.Added.{Added}
+use Rattle.dq_archive.specs.declared.additions.Addition.{Addition}
 use Rattle.dq_core.specs.declared.slot.Slot.{Slot}
 use Rattle.dq_core.specs.Connections.{Connection, connection_in, without, with_connection}
 use Rattle.dq_core.specs.Histories.{is_above}
@@ -35,7 +35,7 @@ key-above number key h e = absurd (grind (arith, nat_tests))
 abbrev AllElse : Slab Slot → Slab Slot → ℕ → Type 0
 AllElse slots new place = (other : ℕ) → other ≢ place → get new other ≡ get slots other
 
-module _ (institutions : List Institution) (rows : List Row) (logs : List (List Added)) (number place : ℕ) where
+module _ (institutions : List Institution) (rows : List Row) (logs : List (List Addition)) (number place : ℕ) where
   -- the slot at the place is held for the connection with the number
   pub record Found (slots : Slab Slot) (cs : List Connection) : Type 0 where
     pub connection : Connection
@@ -187,7 +187,7 @@ module _ (institutions : List Institution) (rows : List Row) (logs : List (List 
 
 -- ---- numbers that are not held
 
-pub found-none : (institutions : List Institution) (rows : List Row) (logs : List (List Added)) (number : ℕ) (slots : Slab Slot) (es : List (ℕ × ℕ)) (cs : List Connection)
+pub found-none : (institutions : List Institution) (rows : List Row) (logs : List (List Addition)) (number : ℕ) (slots : Slab Slot) (es : List (ℕ × ℕ)) (cs : List Connection)
     → AreAt institutions rows logs slots es cs → lookup (has_number number) es ≡ None → connection_in number cs ≡ None
 found-none institutions rows logs number slots [] [] h e = refl
 found-none institutions rows logs number slots [] (c ∷ cs) h e = absurd h
@@ -195,7 +195,7 @@ found-none institutions rows logs number slots (x ∷ es) [] h e = absurd h
 found-none institutions rows logs number slots (x ∷ es) (c ∷ cs) h e = none-step institutions rows logs number slots x es c cs (has_number number x.0) refl h.0
     (λ f. found-none institutions rows logs number slots es cs h.1 f) e
   where
-    none-step : (institutions : List Institution) (rows : List Row) (logs : List (List Added)) (number : ℕ) (slots : Slab Slot) (x : ℕ × ℕ) (es : List (ℕ × ℕ)) (c : Connection) (cs : List Connection)
+    none-step : (institutions : List Institution) (rows : List Row) (logs : List (List Addition)) (number : ℕ) (slots : Slab Slot) (x : ℕ × ℕ) (es : List (ℕ × ℕ)) (c : Connection) (cs : List Connection)
         (b : Bool) → has_number number x.0 ≡ b → IsAt institutions rows logs slots x.0 x.1 c → (lookup (has_number number) es ≡ None → connection_in number cs ≡ None)
         → lookup (has_number number) (x ∷ es) ≡ None → connection_in number (c ∷ cs) ≡ None
     none-step institutions rows logs number slots x es c cs true t w later e = let first : Some x.1 ≡ None = rw t at e in cc
@@ -204,7 +204,7 @@ found-none institutions rows logs number slots (x ∷ es) (c ∷ cs) h e = none-
         let rest = later (rw t at e) in rw other rest
 
 -- a slot has a number where a connection has it
-pub is-held : (institutions : List Institution) (rows : List Row) (logs : List (List Added)) (number : ℕ) (slots : Slab Slot) (es : List (ℕ × ℕ)) (cs : List Connection) (o : Option ℕ)
+pub is-held : (institutions : List Institution) (rows : List Row) (logs : List (List Addition)) (number : ℕ) (slots : Slab Slot) (es : List (ℕ × ℕ)) (cs : List Connection) (o : Option ℕ)
     → AreAt institutions rows logs slots es cs → o ≡ lookup (has_number number) es → is_some o ≡ is_some (connection_in number cs)
 is-held institutions rows logs number slots es cs None h e = rw (found-none institutions rows logs number slots es cs h (sym e)) refl
 is-held institutions rows logs number slots es cs (Some place) h e = rw (found institutions rows logs number place slots es cs h (sym e)).is_in refl
@@ -231,7 +231,7 @@ pub all-left : (P : ℕ × ℕ → Type 0) (test : ℕ → Bool) (es : List (ℕ
 all-left P test [] a = tt
 all-left P test (x ∷ es) a = left-one P test x es (test x.0) refl a (all-left P test es a.1)
 
-pub same-length : (institutions : List Institution) (rows : List Row) (logs : List (List Added)) (slots : Slab Slot) (es : List (ℕ × ℕ)) (cs : List Connection) → AreAt institutions rows logs slots es cs
+pub same-length : (institutions : List Institution) (rows : List Row) (logs : List (List Addition)) (slots : Slab Slot) (es : List (ℕ × ℕ)) (cs : List Connection) → AreAt institutions rows logs slots es cs
     → length es ≡ length cs
 same-length institutions rows logs slots [] [] h = refl
 same-length institutions rows logs slots [] (c ∷ cs) h = absurd h

@@ -4,10 +4,10 @@ use Rattle.dq_config.specs.declared.config.Institution.{Institution}
 use Rattle.dq_config.specs.Limits.{limits_of}
 use Rattle.dq_tables.specs.declared.row.Row.{Row}
 use Rattle.dq_tables.specs.Rows.{IsRising, Operation, of, by, after, after_all}
-use Rattle.dq_tables.specs.Keeping.{State as Kept}
+use Rattle.dq_tables.specs.TableStates.{State as Kept}
 use Rattle.dq_tables.proofs.Lens.{others}
-use Rattle.dq_archive.specs.declared.later.Added.{Added}
-use Rattle.dq_archive.specs.Later.{lasting, without, IsTold}
+use Rattle.dq_archive.specs.declared.additions.Addition.{Addition}
+use Rattle.dq_archive.specs.Additions.{lasting_records, without, IsTold}
 use Rattle.dq_core.specs.declared.connections.Connections.{Connections}
 use Rattle.dq_core.specs.Additions.{log_of}
 use Rattle.dq_core.specs.Services.{ConsoleOrder, console_outcome}
@@ -19,12 +19,12 @@ use Rattle.dq_core.specs.Slots.{AreHeld, Turned}
 use Rattle.dq_core.proofs.Brief.{told_brief, order_brief}
 use Rattle.dq_core.proofs.Framing.{all-kept, all-stay}
 
-pub told_then : {name : List ℕ} {r0 r1 r2 : List Row} {l0 l1 l2 : List Added} → IsTold name r0 r1 l0 l1 → IsTold name r1 r2 l1 l2 → IsTold name r0 r2 l0 l2
+pub told_then : {name : List ℕ} {r0 r1 r2 : List Row} {l0 l1 l2 : List Addition} → IsTold name r0 r1 l0 l1 → IsTold name r1 r2 l1 l2 → IsTold name r0 r2 l0 l2
 told_then {name = name} {r2 = r2} {l0 = l0} first second = record {
   told = first.told ++ second.told;
-  behind = second.behind ∙ ap (λ (l : List Added). l ++ second.told) first.behind ∙ append_assoc l0 first.told second.told;
+  behind = second.behind ∙ ap (λ (l : List Addition). l ++ second.told) first.behind ∙ append_assoc l0 first.told second.told;
   stays = λ later.
-      ap (λ (l : List Added). lasting (without l (of name r2))) (sym (append_assoc later first.told second.told))
+      ap (λ (l : List Addition). lasting_records (without l (of name r2))) (sym (append_assoc later first.told second.told))
       ∙ second.stays (later ++ first.told) ∙ first.stays later;
 }
 
@@ -41,7 +41,7 @@ order-holds institutions world held rows order (Some i) rising h done =
     record {
       at = all-stay institutions world.rows rows logs logs held.slots
           (λ place slot there. all-kept institutions world.rows rows logs logs i.name
-          (λ other apart. (ap (of other) done ∙ others other i.name (λ f. apart (sym f)) edits world.rows rising, refl)) told slot.home slot.query)
+          (λ other apart. (ap (of other) done ∙ others other i.name (λ f. apart (sym f)) edits world.rows rising, refl)) told slot.institution slot.query)
           held.places.entries world.connections h.at;
       ordered = h.ordered;
       below = h.below;

@@ -22,8 +22,8 @@ use Rattle.dq_config.specs.Routing.{institution_named}
 use Rattle.dq_tables.specs.declared.row.Row.{Row}
 use Rattle.dq_tables.specs.Rows.{Edit, IsRising, of, after_all}
 use Rattle.dq_tables.proofs.Lens.{others_all}
-use Rattle.dq_archive.specs.declared.later.Added.{Added}
-use Rattle.dq_archive.specs.Later.{IsTold}
+use Rattle.dq_archive.specs.declared.additions.Addition.{Addition}
+use Rattle.dq_archive.specs.Additions.{IsTold}
 use Rattle.dq_core.specs.declared.event.Event.TheVariants as event
 use Rattle.dq_core.specs.declared.event.Reply.{Reply}
 use Rattle.dq_core.specs.declared.event.Reply.TheVariants as reply
@@ -45,7 +45,7 @@ use Rattle.dq_core.specs.Owners.{owner, live_of}
 use Rattle.dq_core.specs.Histories.{is_above}
 use Rattle.dq_core.specs.OpenAssociations.{institution_index, tally_of_name, IsTallied, one_less, one_more, retallied_by}
 use Rattle.dq_core.specs.Shared.{World, turn, owner_turn, pull_turn, answer_by, operations_by}
-use Rattle.dq_core.specs.Slots.{StandsAt, has_slot, has_query, has_query_at, has_search, IsHeld, IsBegunAt, query_at, Asks, AreAt, AreHeld, Turned, IsTaken, Took, IsUnsearched, is_searching, connection_answer, home_of, is_home}
+use Rattle.dq_core.specs.Slots.{StandsAt, has_slot, has_query, has_query_at, has_search, IsHeld, IsBegunAt, query_at, Asks, AreAt, AreHeld, Turned, IsTaken, Took, IsUnsearched, is_searching, connection_answer, associated_institution, is_of_institution}
 use Rattle.dq_core.proofs.Framing.{Kept, all-kept, unsearched-kept, all-stay, own-log, other-log, same-many}
 use Rattle.dq_core.proofs.OpenQueries.{IsFree, Comes, comes, Stays, goes-on}
 use Rattle.dq_core.proofs.Owning.{Waits, no-home, counted-held}
@@ -59,11 +59,11 @@ unfolding pdus_within
 new-held institutions slot number n i s =
     record { number = n; inbox = i; faultless = refl; stands = s (owner institutions []) }
 
-new-asks : (institutions : List Institution) (rows : List Row) (logs : List (List Added)) (slot : Slot) (number : ℕ)
+new-asks : (institutions : List Institution) (rows : List Row) (logs : List (List Addition)) (slot : Slot) (number : ℕ)
     → ((owner : Option Institution) → StandsAt owner slot []) → slot.query ≡ None → Asks institutions rows logs slot (new_connection number)
 new-asks institutions rows logs slot number s q = record {
-  begun = subst (λ (o : Option HeldQuery). IsBegunAt institutions logs slot.home o) (sym q) tt;
-  query = λ i. query_at institutions rows logs ((s None).home i) (q i);
+  begun = subst (λ (o : Option HeldQuery). IsBegunAt institutions logs slot.institution o) (sym q) tt;
+  query = λ i. query_at institutions rows logs ((s None).institution i) (q i);
 }
 
 -- no octets add no input
@@ -100,13 +100,13 @@ module _ (institutions : List Institution) (rows : List Row) (held : Connections
 
   -- what is left of the counts without a connection
   pub left-count : Waits → (number : ℕ) (slot : Slot) (c : Connection) → connection_in number cs ≡ Some c → IsHeld institutions slot c → (name : List ℕ)
-      → live_of institutions name (without number cs) + bit (is_home name slot.home) ≡ tally_of_name institutions held.tally.counts.items name
+      → live_of institutions name (without number cs) + bit (is_of_institution name slot.institution) ≡ tally_of_name institutions held.tally.counts.items name
   left-count waits number slot c e is name =
       rw (counted-held waits institutions name slot c is, h.tallied name) (live-left institutions name number cs c e)
 
 -- what ended is no longer counted
 ended-tallied : (institutions : List Institution) (held : Connections) (cs : List Connection) (number : ℕ) (home : Option (List ℕ))
-    → ((name : List ℕ) → live_of institutions name (without number cs) + bit (is_home name home) ≡ tally_of_name institutions held.tally.counts.items name)
+    → ((name : List ℕ) → live_of institutions name (without number cs) + bit (is_of_institution name home) ≡ tally_of_name institutions held.tally.counts.items name)
     → (counts : List ℕ) → (home ≡ None → counts ≡ held.tally.counts.items)
     → ((name : List ℕ) → home ≡ Some name → counts ≡ one_less held.tally.counts.items (institution_index institutions name))
     → IsTallied institutions counts (without number cs)
@@ -183,7 +183,7 @@ written-twice slots place old new last there =
     (second.changed, λ other apart. second.others other apart ∙ first.others other apart)
 
 -- the log that was taken is that of who has the connection, or nothing is searched there
-pub taken-log : (institutions : List Institution) (logs : List (List Added)) (q : Option Institution) (slots : Slab Slot) (log : List Added) (place : Option ℕ)
+pub taken-log : (institutions : List Institution) (logs : List (List Addition)) (q : Option Institution) (slots : Slab Slot) (log : List Addition) (place : Option ℕ)
     → place ≡ owner_place institutions q → (log ≡ log_at logs place) ⊎ IsUnsearched slots q
     → (log ≡ log_at logs (owner_place institutions q)) ⊎ IsUnsearched slots q
 taken-log institutions logs q slots log place at (inl same) = inl (same ∙ ap (log_at logs) at)
@@ -260,21 +260,21 @@ module _ (institutions : List Institution) (world : World) (number : ℕ) where
   pub ends-found : Waits → (before after : Connections) (place : ℕ) → AreHeld institutions world.rows before world.connections → Finds before (Some place)
       → Updates before.slots after.slots place None → after.places.entries ≡ remove_entry (has_number number) before.places.entries
       → IsOrdered nat_cmp after.places → after.newest ≡ before.newest → after.additions ≡ before.additions
-      → ((slot : Slot) → get before.slots place ≡ Some slot → slot.home ≡ None → after.tally.counts.items ≡ before.tally.counts.items)
-      → ((slot : Slot) (name : List ℕ) → get before.slots place ≡ Some slot → slot.home ≡ Some name
+      → ((slot : Slot) → get before.slots place ≡ Some slot → slot.institution ≡ None → after.tally.counts.items ≡ before.tally.counts.items)
+      → ((slot : Slot) (name : List ℕ) → get before.slots place ≡ Some slot → slot.institution ≡ Some name
       → after.tally.counts.items ≡ one_less before.tally.counts.items (institution_index institutions name))
       → Turned institutions (turn institutions world (event.End number)) reply.Done world.rows world.rows after
   ends-found waits before after place h e u p o w a none some =
       let at = found-at before place h e in
       let counts = after.tally.counts.items in
       let tally : IsTallied institutions counts (without number world.connections) =
-      ended-tallied institutions before world.connections number at.slot.home
+      ended-tallied institutions before world.connections number at.slot.institution
       (left-count institutions world.rows before world.connections h waits number at.slot at.connection at.is_in at.held) counts
       (none at.slot at.there) (λ name. some at.slot name at.there) in
       rw at.is_in (record {
         replied = refl;
         rows = refl;
-        holds = rw at.same (left-held world.rows before after place h e u.others p o w tally (ended-length before counts at.slot.home (none at.slot at.there)
+        holds = rw at.same (left-held world.rows before after place h e u.others p o w tally (ended-length before counts at.slot.institution (none at.slot at.there)
             (λ name. some at.slot name at.there)) a);
       })
     where
@@ -318,7 +318,7 @@ module _ (institutions : List Institution) (world : World) (number : ℕ) where
     module _ (before : Connections) (place : ℕ) (old new : Slot) (q : Option Institution) (t : HeldTaken)
         (h : AreHeld institutions world.rows before world.connections) (e : Finds before (Some place)) (there : get before.slots place ≡ Some old)
         (took : TookAny before.tally.counts.items q t old new) where
-      abbrev logs : List (List Added)
+      abbrev logs : List (List Addition)
       logs = before.additions.logs.items
 
       abbrev at : FoundAt before place
@@ -337,45 +337,45 @@ module _ (institutions : List Institution) (world : World) (number : ℕ) where
       told = took at.connection is-held-now h.tallied
 
       -- the counts after a piece, where the slot has a home or none
-      counts-now : length before.places.entries < 2 ^ 63 → Waits → (next : Option (List ℕ)) (b : Option Agreement) → next ≡ home_of q b → (name : List ℕ)
-          → tally_of_name institutions (retallied_by institutions before.tally.counts.items q (is_some old.home) (is_some next)) name + bit (is_home name old.home)
-          ≡ tally_of_name institutions before.tally.counts.items name + bit (is_home name next)
+      counts-now : length before.places.entries < 2 ^ 63 → Waits → (next : Option (List ℕ)) (b : Option Agreement) → next ≡ associated_institution q b → (name : List ℕ)
+          → tally_of_name institutions (retallied_by institutions before.tally.counts.items q (is_some old.institution) (is_some next)) name + bit (is_of_institution name old.institution)
+          ≡ tally_of_name institutions before.tally.counts.items name + bit (is_of_institution name next)
       counts-now small waits next b f =
           let lefts = left-count institutions world.rows before world.connections h waits number old at.connection at.is_in is-held-now in
-          retally institutions before.tally.counts.items q old.home next (held_agreement old.association) b told.home f h.counted told.listed
+          retally institutions before.tally.counts.items q old.institution next (held_agreement old.association) b told.slot_institution f h.counted told.listed
           (few institutions world.rows before world.connections h small) (λ name. omega (arith, lefts name))
 
       -- ---- the C-FIND that is open, as the piece is taken
 
       -- what was added is logged, or the log was begun anew where no C-FIND is open
-      abbrev pub IsLog : List Added → Type 0
+      abbrev pub IsLog : List Addition → Type 0
       IsLog log = (log ≡ log_at logs (owner_place institutions q)) ⊎ IsUnsearched (with_value before.slots place new) q
 
       present : ContainsKey before.slots place
       present = rw there refl
 
-      free-one : (o : Option Institution) → IsUnsearched (with_value before.slots place new) o → IsFree o new.home new.query
+      free-one : (o : Option Institution) → IsUnsearched (with_value before.slots place new) o → IsFree o new.institution new.query
       free-one None free = free
       free-one (Some i) free = free place new (Updates-with_value before.slots place new present).changed
 
-      comes-from : (log : List Added) → IsLog log → (log ≡ log_at logs (owner_place institutions q)) ⊎ IsFree q new.home old.query
+      comes-from : (log : List Addition) → IsLog log → (log ≡ log_at logs (owner_place institutions q)) ⊎ IsFree q new.institution old.query
       comes-from log (inl is) = inl is
-      comes-from log (inr free) = inr (subst (λ (o : Option HeldQuery). IsFree q new.home o) told.query (free-one q free))
+      comes-from log (inr free) = inr (subst (λ (o : Option HeldQuery). IsFree q new.institution o) told.query (free-one q free))
 
-      came : (log : List Added) → IsLog log → Comes institutions world.rows logs q old.home old.query log
+      came : (log : List Addition) → IsLog log → Comes institutions world.rows logs q old.institution old.query log
       came log is =
-          comes institutions world.rows logs q (held_agreement old.association) old.home new.home old.query log told.home told.stays asks-now.begun (comes-from log is)
+          comes institutions world.rows logs q (held_agreement old.association) old.institution new.institution old.query log told.slot_institution told.stays asks-now.begun (comes-from log is)
 
-      pub begun-as-taken : (log : List Added) → IsLog log → IsBegun log new.query
+      pub begun-as-taken : (log : List Addition) → IsLog log → IsBegun log new.query
       begun-as-taken log is = subst (IsBegun log) (sym told.query) (came log is).1
 
-      pub asked-as-taken : (log : List Added) → IsLog log → query_by q world.rows log new.query ≡ at.connection.query
+      pub asked-as-taken : (log : List Addition) → IsLog log → query_by q world.rows log new.query ≡ at.connection.query
       asked-as-taken log is = ap (query_by q world.rows log) told.query ∙ (came log is).0 ∙ asks-now.query
 
       -- ---- once it is answered: the rows, the logs, and what is left of the C-FIND
 
       -- what was added is told of who has the connection, and of all others nothing was added
-      pub record Moves (rows : List Row) (log next : List Added) (new_logs : List (List Added)) (left : Option HeldQuery) : Type 0 where
+      pub record Moves (rows : List Row) (log next : List Addition) (new_logs : List (List Addition)) (left : Option HeldQuery) : Type 0 where
         pub is : IsLog log
         pub told_by : IsToldBy q world.rows rows log next
         pub logs_are : new_logs ≡ with_log (with_log logs (owner_place institutions q) []) (owner_place institutions q) next
@@ -383,10 +383,10 @@ module _ (institutions : List Institution) (world : World) (number : ℕ) where
         pub changes : List (List Edit)
         pub made : rows ≡ after_all (operations_by q changes) world.rows
         pub named : (i : Institution) → q ≡ Some i → institution_named institutions i.name ≡ Some i
-        pub unserved : home_of q (held_agreement new.association) ≡ None → left ≡ new.query
+        pub unserved : associated_institution q (held_agreement new.association) ≡ None → left ≡ new.query
         pub begun : IsBegun next left
 
-      module _ (rows : List Row) (log next : List Added) (new_logs : List (List Added)) (left : Option HeldQuery) (m : Moves rows log next new_logs left) where
+      module _ (rows : List Row) (log next : List Addition) (new_logs : List (List Addition)) (left : Option HeldQuery) (m : Moves rows log next new_logs left) where
         -- the logs of who has it, and of others
         own-next : (i : Institution) → q ≡ Some i → log_of institutions new_logs i.name ≡ next
         own-next i is =
@@ -394,7 +394,7 @@ module _ (institutions : List Institution) (world : World) (number : ℕ) where
             let first = with_log logs (institution_index institutions i.name) [] in
             let logs_is : new_logs ≡ with_log first (institution_index institutions i.name) next =
             m.logs_are ∙ ap (λ (o : Option Institution). with_log (with_log logs (owner_place institutions o) []) (owner_place institutions o) next) is in
-            ap (λ (l : List (List Added)). log_of institutions l i.name) logs_is
+            ap (λ (l : List (List Addition)). log_of institutions l i.name) logs_is
             ∙ own-log institutions first i listed (same-many institutions logs i listed h.logged []) next
 
         others-next : (i : Institution) → q ≡ Some i → (other : List ℕ) → other ≢ i.name → log_of institutions new_logs other ≡ log_of institutions logs other
@@ -403,7 +403,7 @@ module _ (institutions : List Institution) (world : World) (number : ℕ) where
             let first = with_log logs (institution_index institutions i.name) [] in
             let logs_is : new_logs ≡ with_log first (institution_index institutions i.name) next =
             m.logs_are ∙ ap (λ (o : Option Institution). with_log (with_log logs (owner_place institutions o) []) (owner_place institutions o) next) is in
-            ap (λ (l : List (List Added)). log_of institutions l other) logs_is
+            ap (λ (l : List (List Addition)). log_of institutions l other) logs_is
             ∙ other-log institutions first i listed (same-many institutions logs i listed h.logged []) next other apart
             ∙ other-log institutions logs i listed h.logged [] other apart
 
@@ -422,8 +422,8 @@ module _ (institutions : List Institution) (world : World) (number : ℕ) where
         told-all : (i : Institution) → q ≡ Some i → log ≡ log_of institutions logs i.name → (home : Option (List ℕ)) (query : Option HeldQuery) → KeptHere home query
         told-all i is same =
             all-kept institutions world.rows rows logs new_logs i.name (both-others i is)
-            (subst (λ (l : List Added). IsTold i.name world.rows rows l (log_of institutions new_logs i.name)) same
-            (subst (λ (l : List Added). IsTold i.name world.rows rows log l) (sym (own-next i is))
+            (subst (λ (l : List Addition). IsTold i.name world.rows rows l (log_of institutions new_logs i.name)) same
+            (subst (λ (l : List Addition). IsTold i.name world.rows rows log l) (sym (own-next i is))
             (subst (λ (o : Option Institution). IsToldBy o world.rows rows log next) is m.told_by)))
 
         no-logs : q ≡ None → new_logs ≡ logs
@@ -433,23 +433,23 @@ module _ (institutions : List Institution) (world : World) (number : ℕ) where
         stranger-kept : q ≡ None → (home : Option (List ℕ)) (query : Option HeldQuery) → KeptHere home query
         stranger-kept none home query begun =
             let rows_is : rows ≡ world.rows = subst (λ (o : Option Institution). IsToldBy o world.rows rows log next) none m.told_by in (
-              subst (λ (l : List (List Added)). IsBegunAt institutions l home query) (sym (no-logs none)) begun,
+              subst (λ (l : List (List Addition)). IsBegunAt institutions l home query) (sym (no-logs none)) begun,
               (λ i. query_at institutions (rows_is i) (no-logs none i) home query),
             )
 
         old-free-by : (name : List ℕ) (was is : Option (List ℕ)) (query : Option HeldQuery) → (was ≡ None) ⊎ (is ≡ was)
-            → (is_home name is && is_some query) ≡ false → (is_home name was && is_some query) ≡ false
-        old-free-by name was is query (inl none) free = ap (λ (o : Option (List ℕ)). is_home name o && is_some query) none
-        old-free-by name was is query (inr same) free = ap (λ (o : Option (List ℕ)). is_home name o && is_some query) (sym same) ∙ free
+            → (is_of_institution name is && is_some query) ≡ false → (is_of_institution name was && is_some query) ≡ false
+        old-free-by name was is query (inl none) free = ap (λ (o : Option (List ℕ)). is_of_institution name o && is_some query) none
+        old-free-by name was is query (inr same) free = ap (λ (o : Option (List ℕ)). is_of_institution name o && is_some query) (sym same) ∙ free
 
-        old-free : (i : Institution) → IsUnsearched (with_value before.slots place new) (Some i) → (is_home i.name old.home && is_some old.query) ≡ false
+        old-free : (i : Institution) → IsUnsearched (with_value before.slots place new) (Some i) → (is_of_institution i.name old.institution && is_some old.query) ≡ false
         old-free i free =
-            old-free-by i.name old.home new.home old.query told.stays
-            (subst (λ (o : Option HeldQuery). (is_home i.name new.home && is_some o) ≡ false) told.query
+            old-free-by i.name old.institution new.institution old.query told.stays
+            (subst (λ (o : Option HeldQuery). (is_of_institution i.name new.institution && is_some o) ≡ false) told.query
             (free place new (Updates-with_value before.slots place new present).changed))
 
         free-at : (i : Institution) → IsUnsearched (with_value before.slots place new) (Some i) → (other : ℕ) (slot : Slot) → get before.slots other ≡ Some slot
-            → (b : Bool) → (other == place) ≡ b → (is_home i.name slot.home && is_some slot.query) ≡ false
+            → (b : Bool) → (other == place) ≡ b → (is_of_institution i.name slot.institution && is_some slot.query) ≡ false
         free-at i free other slot found_there true same =
             let here : other ≡ place = grind (arith, nat_tests) in
             let both : Some slot ≡ Some old = sym found_there ∙ ap (get before.slots) here ∙ there in
@@ -459,12 +459,12 @@ module _ (institutions : List Institution) (world : World) (number : ℕ) where
             let apart : other ≢ place = λ f. absurd (grind (arith, nat_tests)) in
             free other slot ((Updates-with_value before.slots place new present).others other apart ∙ found_there)
 
-        kept-by : (o : Option Institution) → q ≡ o → IsLog log → (other : ℕ) (slot : Slot) → get before.slots other ≡ Some slot → KeptHere slot.home slot.query
-        kept-by None is l other slot found_there = stranger-kept is slot.home slot.query
+        kept-by : (o : Option Institution) → q ≡ o → IsLog log → (other : ℕ) (slot : Slot) → get before.slots other ≡ Some slot → KeptHere slot.institution slot.query
+        kept-by None is l other slot found_there = stranger-kept is slot.institution slot.query
         kept-by (Some i) is (inl same) other slot found_there =
-            told-all i is (same ∙ ap (λ (o : Option Institution). log_at logs (owner_place institutions o)) is) slot.home slot.query
+            told-all i is (same ∙ ap (λ (o : Option Institution). log_at logs (owner_place institutions o)) is) slot.institution slot.query
         kept-by (Some i) is (inr free) other slot found_there =
-            unsearched-kept institutions world.rows rows logs new_logs i.name (both-others i is) slot.home slot.query
+            unsearched-kept institutions world.rows rows logs new_logs i.name (both-others i is) slot.institution slot.query
             (free-at i (subst (λ (o : Option Institution). IsUnsearched (with_value before.slots place new) o) is free) other slot found_there (other == place) refl)
 
         moved-at : AreAt institutions rows new_logs before.slots before.places.entries world.connections
@@ -495,9 +495,9 @@ module _ (institutions : List Institution) (world : World) (number : ℕ) where
         homeless-by None (Some query) none begun = absurd begun
         homeless-by (Some name) (Some query) none begun = cc
 
-        none-open : new.home ≡ None → (old.home ≡ None) ⊎ (new.home ≡ old.home) → old.query ≡ None
-        none-open none (inl was) = homeless-by old.home old.query was asks-now.begun
-        none-open none (inr same) = homeless-by old.home old.query (sym same ∙ none) asks-now.begun
+        none-open : new.institution ≡ None → (old.institution ≡ None) ⊎ (new.institution ≡ old.institution) → old.query ≡ None
+        none-open none (inl was) = homeless-by old.institution old.query was asks-now.begun
+        none-open none (inr same) = homeless-by old.institution old.query (sym same ∙ none) asks-now.begun
 
         abbrev given : Option OpenQuery
         given = query_by q rows next left
@@ -505,10 +505,10 @@ module _ (institutions : List Institution) (world : World) (number : ℕ) where
         abbrev kept : Slot
         kept = record new { query = left }
 
-        left-goes-on : t.step.close ≡ false → Stays institutions rows new_logs q new.home left next
+        left-goes-on : t.step.close ≡ false → Stays institutions rows new_logs q new.institution left next
         left-goes-on close =
             let home = (told.held (sym told.stands.step.close ∙ close)).1 in
-            goes-on institutions rows new_logs q (held_agreement new.association) new.home left next home
+            goes-on institutions rows new_logs q (held_agreement new.association) new.institution left next home
             (λ none. m.unserved (sym home ∙ none) ∙ told.query ∙ none-open none told.stays)
             (λ i is. (own-next i is, m.named i is)) m.begun
 
@@ -517,27 +517,27 @@ module _ (institutions : List Institution) (world : World) (number : ℕ) where
           number = is.number;
           inbox = is.inbox;
           faultless = is.faultless;
-          stands = record { association = is.stands.association; not_closed = is.stands.not_closed; home = is.stands.home; owned = is.stands.owned };
+          stands = record { association = is.stands.association; not_closed = is.stands.not_closed; slot_institution = is.stands.slot_institution; owned = is.stands.owned };
         }
 
         -- where the piece closes
         closed-held : length before.places.entries < 2 ^ 63 → Waits → (after : Connections)
             → ((other : ℕ) → other ≢ place → get after.slots other ≡ get before.slots other)
             → after.places.entries ≡ remove_entry (has_number number) before.places.entries → IsOrdered nat_cmp after.places → after.newest ≡ before.newest
-            → after.tally.counts.items ≡ retallied_by institutions before.tally.counts.items q (is_some old.home) false → after.additions.logs.items ≡ new_logs
+            → after.tally.counts.items ≡ retallied_by institutions before.tally.counts.items q (is_some old.institution) false → after.additions.logs.items ≡ new_logs
             → AreHeld institutions rows after (without number world.connections)
         closed-held small waits after u p o w r l =
             let lefts = left-count institutions world.rows before world.connections h waits number old at.connection at.is_in is-held-now in
             let then : Connections = record before { additions = after.additions } in
             left-held rows then after place (moved then refl refl refl refl l) e u p o w
             (λ name. rw r (omega (arith, counts-now small waits None None (sym (no-home q)) name, lefts name)))
-            (ap length r ∙ retally-length institutions before.tally.counts.items q (is_some old.home) false) refl
+            (ap length r ∙ retally-length institutions before.tally.counts.items q (is_some old.institution) false) refl
 
         -- where it does not
         open-held : length before.places.entries < 2 ^ 63 → Waits → (after : Connections) → t.step.close ≡ false
             → ((other : ℕ) → other ≢ place → get after.slots other ≡ get before.slots other) → get after.slots place ≡ Some kept
             → after.places ≡ before.places → after.newest ≡ before.newest
-            → after.tally.counts.items ≡ retallied_by institutions before.tally.counts.items q (is_some old.home) (is_some new.home)
+            → after.tally.counts.items ≡ retallied_by institutions before.tally.counts.items q (is_some old.institution) (is_some new.institution)
             → after.additions.logs.items ≡ new_logs
             → AreHeld institutions rows after (with_connection (with_piece at.connection piece given) world.connections)
         open-held small waits after close u written p w r l =
@@ -552,24 +552,24 @@ module _ (institutions : List Institution) (world : World) (number : ℕ) where
               below = rw (p, w) h.below;
               tallied = λ name. rw r (omega (
                 arith,
-                counts-now small waits new.home (held_agreement new.association) now.1 name,
+                counts-now small waits new.institution (held_agreement new.association) now.1 name,
                 live-changed institutions name c world.connections at.connection (rw at.same at.is_in),
                 ap bit (counted-held waits institutions name old at.connection is-held-now),
                 ap bit (counted-held waits institutions name kept c is_kept),
                 h.tallied name,
               ));
-              counted = ap length r ∙ retally-length institutions before.tally.counts.items q (is_some old.home) (is_some new.home) ∙ h.counted;
+              counted = ap length r ∙ retally-length institutions before.tally.counts.items q (is_some old.institution) (is_some new.institution) ∙ h.counted;
               logged = ap length l ∙ many-by q refl;
             }
 
         -- what is held once the slot has answered, and is counted anew
         pub record IsMiddle (mid : Connections) (is : Bool) : Type 0 where
-          pub stays : is ≡ (is_some new.home && not t.step.close)
+          pub stays : is ≡ (is_some new.institution && not t.step.close)
           pub others : (other : ℕ) → other ≢ place → get mid.slots other ≡ get before.slots other
           pub written : get mid.slots place ≡ Some kept
           pub places : mid.places ≡ before.places
           pub newest : mid.newest ≡ before.newest
-          pub tally : mid.tally.counts.items ≡ retallied_by institutions before.tally.counts.items q (is_some old.home) is
+          pub tally : mid.tally.counts.items ≡ retallied_by institutions before.tally.counts.items q (is_some old.institution) is
           pub logs_are : mid.additions.logs.items ≡ new_logs
 
         pub closes : length before.places.entries < 2 ^ 63 → Waits → (mid after : Connections) (is : Bool) → IsMiddle mid is → t.step.close ≡ true
@@ -577,18 +577,18 @@ module _ (institutions : List Institution) (world : World) (number : ℕ) where
             → IsOrdered nat_cmp after.places → after.newest ≡ mid.newest → after.tally ≡ mid.tally → after.additions ≡ mid.additions
             → AreHeld institutions rows after (without number world.connections)
         closes small waits mid after is it close u p o w y l =
-            let ended : is ≡ false = it.stays ∙ ap (λ (b : Bool). is_some new.home && not b) close ∙ and-false (is_some new.home) in
+            let ended : is ≡ false = it.stays ∙ ap (λ (b : Bool). is_some new.institution && not b) close ∙ and-false (is_some new.institution) in
             closed-held small waits after (λ other d. u.others other d ∙ it.others other d)
             (p ∙ ap (λ (ps : BTreeMap ℕ ℕ). remove_entry (has_number number) ps.entries) it.places) o (w ∙ it.newest)
-            (ap (λ (y : OpenAssociations). y.counts.items) y ∙ it.tally ∙ ap (retallied_by institutions before.tally.counts.items q (is_some old.home)) ended)
+            (ap (λ (y : OpenAssociations). y.counts.items) y ∙ it.tally ∙ ap (retallied_by institutions before.tally.counts.items q (is_some old.institution)) ended)
             (ap (λ (x : Additions). x.logs.items) l ∙ it.logs_are)
 
         pub stays-open : length before.places.entries < 2 ^ 63 → Waits → (mid : Connections) (is : Bool) → IsMiddle mid is
             → t.step.close ≡ false → AreHeld institutions rows mid (with_connection (with_piece at.connection piece given) world.connections)
         stays-open small waits mid is it close =
-            let on : is ≡ is_some new.home = it.stays ∙ ap (λ (b : Bool). is_some new.home && not b) close ∙ and-true (is_some new.home) in
+            let on : is ≡ is_some new.institution = it.stays ∙ ap (λ (b : Bool). is_some new.institution && not b) close ∙ and-true (is_some new.institution) in
             open-held small waits mid close it.others it.written it.places it.newest
-            (it.tally ∙ ap (retallied_by institutions before.tally.counts.items q (is_some old.home)) on) it.logs_are
+            (it.tally ∙ ap (retallied_by institutions before.tally.counts.items q (is_some old.institution)) on) it.logs_are
 
         -- a piece was taken, and answered
         pub piece-taken : (agreed : Option Agreement) (was : List Row) → agreed ≡ held_agreement new.association → was ≡ world.rows
@@ -616,7 +616,7 @@ module _ (institutions : List Institution) (world : World) (number : ℕ) where
 
       -- a piece was taken, and answered in part
       pub piece-part : (agreed : Option Agreement) (was rows : List Row) → agreed ≡ held_agreement new.association → was ≡ world.rows
-          → (log : List Added) → IsLog log → (IsLeft : List Row → Type 0)
+          → (log : List Addition) → IsLog log → (IsLeft : List Row → Type 0)
           → ((x : Taken) → IsTaken agreed t x → AnswerPartlyApplied q (connection_answer q was agreed (query_by q was log new.query) x) was rows IsLeft)
           → IsPartOf (turn institutions world (event.Piece number piece)).operations world.rows rows IsLeft
       piece-part agreed was rows agreed_is was_is log is_log IsLeft did =
@@ -688,13 +688,13 @@ module _ (institutions : List Institution) (world : World) (number : ℕ) where
       stands = record {
         association = pulled-old.stands.association;
         not_closed = pulled-old.stands.not_closed;
-        home = pulled-old.stands.home;
+        slot_institution = pulled-old.stands.slot_institution;
         owned = pulled-old.stands.owned;
       };
     })
 
-    pulled-held : (query : Option OpenQuery) → query_at institutions world.rows before.additions.logs.items old.home new.query ≡ query
-        → IsBegunAt institutions before.additions.logs.items old.home new.query
+    pulled-held : (query : Option OpenQuery) → query_at institutions world.rows before.additions.logs.items old.institution new.query ≡ query
+        → IsBegunAt institutions before.additions.logs.items old.institution new.query
         → AreHeld institutions world.rows (record before { slots = with_value before.slots place new })
         (with_connection (with_query query pulled.connection) world.connections)
     pulled-held query asked begun =
@@ -702,7 +702,7 @@ module _ (institutions : List Institution) (world : World) (number : ℕ) where
         let c = with_query query pulled.connection in
         let present : ContainsKey before.slots place = rw there refl in
         let updates = Updates-with_value before.slots place new present in
-        let home : new.home ≡ old.home = ap (λ (s : Slot). s.home) same_slot in
+        let home : new.institution ≡ old.institution = ap (λ (s : Slot). s.institution) same_slot in
         let asks : Asks institutions world.rows logs new c = record {
           begun = subst (λ (o : Option (List ℕ)). IsBegunAt institutions logs o new.query) (sym home) begun;
           query = ap (λ (o : Option (List ℕ)). query_at institutions world.rows logs o new.query) home ∙ asked;
@@ -719,9 +719,9 @@ module _ (institutions : List Institution) (world : World) (number : ℕ) where
         }
 
     pub pull-answered : (rows : List Row) → rows ≡ world.rows → (p : Page)
-        → p ≡ next_page (query_at institutions world.rows before.additions.logs.items old.home old.query)
-        → query_at institutions world.rows before.additions.logs.items old.home new.query ≡ p.query
-        → IsBegunAt institutions before.additions.logs.items old.home new.query → (r : Reply) → r ≡ reply.Octets number p.octets false
+        → p ≡ next_page (query_at institutions world.rows before.additions.logs.items old.institution old.query)
+        → query_at institutions world.rows before.additions.logs.items old.institution new.query ≡ p.query
+        → IsBegunAt institutions before.additions.logs.items old.institution new.query → (r : Reply) → r ≡ reply.Octets number p.octets false
         → Turned institutions (turn institutions world (event.Pull number)) r world.rows rows
         (record before { slots = with_value before.slots place new })
     pull-answered rows f p page left begun r is =
@@ -745,7 +745,7 @@ pub pending-none : (institutions : List Institution) (rows : List Row) (number :
     → lookup (has_number number) held.places.entries ≡ None → false ≡ is_pending number cs
 pending-none institutions rows number held cs h e = rw (found-none institutions rows held.additions.logs.items number held.slots held.places.entries cs h.at e) refl
 
-some-query : (institutions : List Institution) (rows : List Row) (log_of_each : List (List Added)) (home : Option (List ℕ)) (o : Option HeldQuery)
+some-query : (institutions : List Institution) (rows : List Row) (log_of_each : List (List Addition)) (home : Option (List ℕ)) (o : Option HeldQuery)
     → is_some o ≡ is_some (query_at institutions rows log_of_each home o)
 some-query institutions rows log_of_each None None = refl
 some-query institutions rows log_of_each None (Some query) = refl
@@ -760,8 +760,8 @@ pending-some institutions rows number place held slot cs h e there =
     let at = found institutions rows logs number place held.slots held.places.entries cs h.at e in
     let both : Some at.slot ≡ Some slot = sym at.there ∙ there in
     let is : at.slot ≡ slot = cc in
-    let same : query_at institutions rows logs slot.home slot.query ≡ at.connection.query = rw is at at.asks.query in
-    rw at.is_in (some-query institutions rows logs slot.home slot.query ∙ ap is_some same)
+    let same : query_at institutions rows logs slot.institution slot.query ≡ at.connection.query = rw is at at.asks.query in
+    rw at.is_in (some-query institutions rows logs slot.institution slot.query ∙ ap is_some same)
 
 no-query : (o : Option HeldQuery) → is_some o ≡ false → o ≡ None
 no-query None e = refl

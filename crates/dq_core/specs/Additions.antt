@@ -2,19 +2,19 @@
 -- configuration. This is there for the prover.
 use Rattle.std.specs.Prelude.{ℕ, List, [], Option, Some, None, slice_index_or, slice_set}
 use Rattle.dq_config.specs.declared.config.Institution.{Institution}
-use Rattle.dq_archive.specs.declared.later.Added.{Added}
+use Rattle.dq_archive.specs.declared.additions.Addition.{Addition}
 use Rattle.dq_core.specs.OpenAssociations.{institution_index}
 
-abbrev pub log_at : List (List Added) → Option ℕ → List Added
+abbrev pub log_at : List (List Addition) → Option ℕ → List Addition
 log_at logs None = []
 log_at logs (Some place) = slice_index_or logs place []
 
 -- the log of the institution of a name
-abbrev pub log_of : List Institution → List (List Added) → List ℕ → List Added
+abbrev pub log_of : List Institution → List (List Addition) → List ℕ → List Addition
 log_of institutions logs name = log_at logs (institution_index institutions name)
 
 -- the logs with another one at a place
-abbrev pub with_log : List (List Added) → Option ℕ → List Added → List (List Added)
+abbrev pub with_log : List (List Addition) → Option ℕ → List Addition → List (List Addition)
 with_log logs None log = logs
 with_log logs (Some place) log = slice_set logs place log
 

@@ -82,9 +82,9 @@ alone_turn limits world (event.End number) =
     alone_end world (connection_in number world.connections)
 alone_turn limits world (event.Pull number) =
     alone_pull world (connection_in number world.connections)
-alone_turn limits world (event.Schedule inst octets) =
+alone_turn limits world (event.Schedule institution octets) =
     alone_order world (console_outcome limits world.records (Scheduling octets))
-alone_turn limits world (event.Withdraw inst id) =
+alone_turn limits world (event.Withdraw institution id) =
     alone_order world (console_outcome limits world.records (Withdrawal id))
 
 abbrev pub alone_after_turn : AloneWorld → AloneTurn → AloneWorld

@@ -20,7 +20,7 @@ use Rattle.dq_tables.specs.Rows.{Operation, of, after_all}
 use Rattle.dq_core.specs.declared.event.Event.{Event}
 use Rattle.dq_core.specs.declared.event.Event.TheVariants as event
 use Rattle.dq_core.specs.declared.event.Reply.{Reply}
-use Rattle.dq_core.specs.Services.{Response, Responses, served}
+use Rattle.dq_core.specs.Services.{Response, Responses, service_of_message}
 use Rattle.dq_core.specs.Pages.{page_length}
 use Rattle.dq_core.specs.Answers.{verdict_at}
 use Rattle.dq_core.specs.Owners.{live_of}
@@ -126,7 +126,7 @@ exchange i agreement [] = []
 exchange i agreement (PageRequest ∷ later) = exchange i agreement later
 exchange i agreement (ConnectionEnd ∷ later) = []
 exchange i agreement (InputAt world (Sent message) ∷ later) =
-    let service = served (limits_of i) (of i.name world.rows) agreement message in
+    let service = service_of_message (limits_of i) (of i.name world.rows) agreement message in
     let octets = response_octets_of agreement message (sequel message.command.id later)
     service.responses in
     map Octet octets ++ exchange i agreement later
@@ -163,7 +163,7 @@ abbrev pub AreFinished : Institution → Agreement → List Arrival → Type 0
 AreFinished i agreement [] = Unit {0}
 AreFinished i agreement (InputAt world (Sent message) ∷ later) =
     AreAllSent (sequel message.command.id later)
-    (served (limits_of i) (of i.name world.rows) agreement message).responses
+    (service_of_message (limits_of i) (of i.name world.rows) agreement message).responses
     × AreFinished i agreement later
 AreFinished i agreement (arrival ∷ later) = AreFinished i agreement later
 

@@ -16,7 +16,7 @@ use Rattle.dq_tables.specs.declared.fault.TableFault.{TableFault}
 use Rattle.dq_tables.specs.declared.fault.TableFault.TheVariants as table
 use Rattle.dq_tables.specs.declared.row.Row.{Row}
 use Rattle.dq_tables.specs.Rows.{Record, Edit, of, by, after, after_all}
-use Rattle.dq_tables.specs.Keeping.{State as Kept}
+use Rattle.dq_tables.specs.TableStates.{State as Kept}
 use Rattle.dq_core.specs.declared.event.Reply.{Reply}
 use Rattle.dq_core.specs.declared.fault.Fault.{Fault}
 use Rattle.dq_core.specs.declared.fault.Fault.TheVariants.{NoMemory, Store}
@@ -28,19 +28,19 @@ use Rattle.dq_core.specs.Answers.{Progress, Answer, agreement_by, no_answer, mes
 use Rattle.dq_core.specs.Shared.{operations_by, first_world, order_turn}
 use Rattle.dq_core.specs.Stepping.{HealthAfter, MayLeaveAfter, IsPartOf}
 
--- An owner's answer was given: its octets were added, its operations were made, and the C-FIND that
--- it leaves open is open.
-pub record AnswerApplied (owner : Option Institution) (answer : Answer) (before after : List Row)
+-- An answer was given for an institution, or for none: its octets were added, its operations were made, and the
+-- C-FIND that it leaves open is open.
+pub record AnswerApplied (institution : Option Institution) (answer : Answer) (before after : List Row)
     (out added : List ℕ) (left : Option OpenQuery) : Type 0 where
   pub octets : added ≡ out ++ answer.octets
-  pub rows : after ≡ after_all (operations_by owner answer.changes) before
+  pub rows : after ≡ after_all (operations_by institution answer.changes) before
   pub query : left ≡ answer.next.query
 
--- the operations of an owner's answer were made in part
+-- the operations of such an answer were made in part
 abbrev pub AnswerPartlyApplied : Option Institution → Answer → List Row → List Row
     → (List Row → Type 0) → Type 0
-AnswerPartlyApplied owner answer before after IsLeft =
-    IsPartOf (operations_by owner answer.changes) before after IsLeft
+AnswerPartlyApplied institution answer before after IsLeft =
+    IsPartOf (operations_by institution answer.changes) before after IsLeft
 
 -- An outcome is answered and its edits are made, or there is a fault, and no edit is made.
 pub record Operates (old new : Kept) (institution : List ℕ)
@@ -56,16 +56,16 @@ pub record Operates (old new : Kept) (institution : List ℕ)
 
 -- An order of an institution, or of none, is answered as by the plain server and its operations are
 -- made, or there is a fault, and no operation is made.
-pub record Orders (old new : Kept) (owner : Option Institution) (order : ConsoleOrder)
+pub record Orders (old new : Kept) (institution : Option Institution) (order : ConsoleOrder)
     (result : Result Reply Fault) : Type 0 where
   pub goes : HealthAfter old new result
   pub replied : new.honest
-      → IfOk result (λ reply. reply ≡ (order_turn (first_world old.rows) order owner).reply)
+      → IfOk result (λ reply. reply ≡ (order_turn (first_world old.rows) order institution).reply)
   pub done : new.honest → OnOk result (
-      new.rows ≡ after_all (order_turn (first_world old.rows) order owner).operations old.rows)
+      new.rows ≡ after_all (order_turn (first_world old.rows) order institution).operations old.rows)
   pub same : new.honest → OnErr result (new.rows ≡ old.rows)
   pub crash : new.honest → OnErr result ((r : List Row) → MayLeaveAfter old new r → (r ≡ old.rows)
-      ⊎ (r ≡ after_all (order_turn (first_world old.rows) order owner).operations old.rows))
+      ⊎ (r ≡ after_all (order_turn (first_world old.rows) order institution).operations old.rows))
 
 -- the fault of the server at a fault of the tables
 abbrev pub server_fault : TableFault → Fault

@@ -1,7 +1,7 @@
 -- What a look at a server's rows leaves.
 use Rattle.std.specs.Prelude.{◌≡◌, ◌↔◌, true, false, List, Ok, Err}
 use Rattle.dq_tables.specs.declared.row.Row.{Row}
-use Rattle.dq_tables.specs.Keeping.{State}
+use Rattle.dq_tables.specs.TableStates.{State}
 use Rattle.dq_core.specs.declared.event.Event.{Event}
 use Rattle.dq_core.specs.declared.fault.Fault.{Fault}
 use Rattle.dq_core.specs.declared.fault.Fault.TheVariants.{Store, Stopped}

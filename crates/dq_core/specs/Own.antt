@@ -36,21 +36,21 @@ is_on numbers names (Open number) = numbers number
 is_on numbers names (Piece number piece) = numbers number
 is_on numbers names (End number) = numbers number
 is_on numbers names (Pull number) = numbers number
-is_on numbers names (Schedule inst octets) = names inst
-is_on numbers names (Withdraw inst id) = names inst
+is_on numbers names (Schedule institution octets) = names institution
+is_on numbers names (Withdraw institution id) = names institution
 
 -- An institution's own events in a history: those on the connections that it owns in this history,
 -- and the console's that name it.
 abbrev pub is_own_event : List Institution → List ℕ → List Event → Event → Bool
 is_own_event institutions name events =
-    is_on (owns institutions name events) (λ (inst : List ℕ). bytes_eq inst name)
+    is_on (owns institutions name events) (λ (institution : List ℕ). bytes_eq institution name)
 
 abbrev pub own : List Institution → List ℕ → List Event → List Event
 own institutions name events = filter (is_own_event institutions name events) events
 
 -- the events on one connection
 abbrev pub is_on_connection : ℕ → Event → Bool
-is_on_connection number = is_on (λ (n : ℕ). n == number) (λ (inst : List ℕ). false)
+is_on_connection number = is_on (λ (n : ℕ). n == number) (λ (institution : List ℕ). false)
 
 -- the replies at the events that pass a test; there may be fewer replies than events
 abbrev pub replies_at : (Event → Bool) → List Event → List Reply → List Reply

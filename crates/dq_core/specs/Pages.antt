@@ -8,7 +8,7 @@ use Rattle.dq_dimse.specs.Sending.{message_pdus}
 use Rattle.dq_assoc.specs.declared.agreement.Agreement.{Agreement}
 use Rattle.dq_config.specs.Limits.{Limits}
 use Rattle.dq_tables.specs.Rows.{Record, Edit}
-use Rattle.dq_core.specs.Services.{Response, Responses, Served, served}
+use Rattle.dq_core.specs.Services.{Response, Responses, Served, service_of_message}
 
 -- a response as it is sent to a peer that takes PDUs up to a limit
 abbrev pub response_octets : ℕ → ℕ → Response → List ℕ
@@ -104,4 +104,4 @@ reaction_while (Some query) message first =
 -- what a message on an association leads to
 unfoldable pub reaction : Option OpenQuery → Limits → List Record → Agreement → Message → Reaction
 reaction query limits records agreement message = reaction_while query message
-    (first_reaction agreement message (served limits records agreement message))
+    (first_reaction agreement message (service_of_message limits records agreement message))

@@ -11,11 +11,11 @@ use Rattle.dq_match.specs.declared.responses.Found.{Found}
 use Rattle.dq_tables.specs.declared.fault.TableFault.{TableFault}
 use Rattle.dq_tables.specs.declared.row.Row.{Row}
 use Rattle.dq_tables.specs.Rows.{Record, of}
-use Rattle.dq_tables.specs.Keeping.{State, Reads}
-use Rattle.dq_archive.specs.declared.later.Added.{Added}
+use Rattle.dq_tables.specs.TableStates.{State, Reads}
+use Rattle.dq_archive.specs.declared.additions.Addition.{Addition}
 use Rattle.dq_archive.specs.declared.past.Past.{Past}
-use Rattle.dq_archive.specs.Later.{without, IsTold}
-use Rattle.dq_archive.specs.Pasts.{IsSame, state_in, records_in}
+use Rattle.dq_archive.specs.Additions.{without, IsTold}
+use Rattle.dq_archive.specs.PastArchives.{IsSame, state_in, records_in}
 use Rattle.dq_find.specs.OpenSearches.{left_of}
 use Rattle.dq_core.specs.declared.answers.Answers.{Answers}
 use Rattle.dq_core.specs.declared.answers.Answers.TheVariants as answers
@@ -61,26 +61,26 @@ abbrev pub open_query_in : List Record → Option HeldQuery → Option OpenQuery
 open_query_in records query = option_map (open_query_of records) query
 
 -- An institution's records without those that were logged after so many.
-abbrev pub records_since : List ℕ → List Row → List Added → ℕ → List Record
+abbrev pub records_since : List ℕ → List Row → List Addition → ℕ → List Record
 records_since name rows log since = without (drop since log) (of name rows)
 
 -- the responses that are left of a query of an institution, by its records and what was logged
-abbrev pub query_then : List ℕ → List Row → List Added → Option HeldQuery → Option OpenQuery
+abbrev pub query_then : List ℕ → List Row → List Addition → Option HeldQuery → Option OpenQuery
 query_then name rows log query =
     option_map (λ (q : HeldQuery). open_query_of (records_since name rows log q.since) q) query
 
 -- a query began when no more was logged than now
-abbrev pub IsBegun : List Added → Option HeldQuery → Type 0
+abbrev pub IsBegun : List Addition → Option HeldQuery → Type 0
 IsBegun log None = Unit {0}
 IsBegun log (Some query) = query.since ≤ length log
 
 -- the same for the institution that has a connection, if one has
-abbrev pub query_by : Option Institution → List Row → List Added → Option HeldQuery → Option OpenQuery
+abbrev pub query_by : Option Institution → List Row → List Addition → Option HeldQuery → Option OpenQuery
 query_by None rows log query = open_query_in [] query
 query_by (Some i) rows log query = query_then i.name rows log query
 
 -- what was added to it is told, and to nobody nothing is added
-abbrev pub IsToldBy : Option Institution → List Row → List Row → List Added → List Added → Type 0
+abbrev pub IsToldBy : Option Institution → List Row → List Row → List Addition → List Addition → Type 0
 IsToldBy None before after old new = after ≡ before
 IsToldBy (Some i) before after old new = IsTold i.name before after old new
 

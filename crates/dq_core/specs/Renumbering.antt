@@ -20,8 +20,8 @@ with_other_number another (Open number) = Open (another number)
 with_other_number another (Piece number piece) = Piece (another number) piece
 with_other_number another (End number) = End (another number)
 with_other_number another (Pull number) = Pull (another number)
-with_other_number another (Schedule inst octets) = Schedule inst octets
-with_other_number another (Withdraw inst id) = Withdraw inst id
+with_other_number another (Schedule institution octets) = Schedule institution octets
+with_other_number another (Withdraw institution id) = Withdraw institution id
 
 -- a reply for that connection under the other number
 abbrev pub renumbered_reply : (ℕ → ℕ) → Reply → Reply

@@ -17,7 +17,7 @@ use Rattle.dq_find.specs.Answers as study_answers
 use Rattle.dq_worklist.specs.Queries as worklist
 use Rattle.dq_worklist.specs.Answers as worklist_answers
 use Rattle.dq_tables.specs.Rows.{Record}
-use Rattle.dq_core.specs.Services.{Response, Responses, pending_response, served}
+use Rattle.dq_core.specs.Services.{Response, Responses, pending_response, service_of_message}
 
 -- these responses are pending ones, each with one of the answers, in their order
 abbrev pub ArePending : AcceptedContext → Command → Bool → List ElementList → List Response → Type 0
@@ -51,5 +51,5 @@ pub record AreExact (records : List Record) (agreement : Agreement) (context : A
 abbrev pub IsAnsweredExactly : Limits → List Record → Agreement → Message → Type 0
 IsAnsweredExactly limits records agreement message = (context : AcceptedContext) (r : Responses)
     → context_of agreement message.context ≡ Some context
-    → (served limits records agreement message).responses ≡ Some r
+    → (service_of_message limits records agreement message).responses ≡ Some r
     → AreExact records agreement context message r

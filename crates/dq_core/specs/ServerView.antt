@@ -2,7 +2,7 @@
 use Rattle.std.specs.Prelude.{◌≡◌, ◌⊎◌, ℕ, Bool, false, List, [], Option, None}
 use Rattle.dq_config.specs.declared.config.Institution.{Institution}
 use Rattle.dq_tables.specs.declared.row.Row.{Row}
-use Rattle.dq_tables.specs.Keeping.{State}
+use Rattle.dq_tables.specs.TableStates.{State}
 use Rattle.dq_core.specs.declared.event.Event.{Event}
 use Rattle.dq_core.specs.declared.event.Event.TheVariants.{Open, Piece, End, Pull, Schedule, Withdraw}
 use Rattle.dq_core.specs.declared.connections.Connections.{Connections}
@@ -26,8 +26,8 @@ IsQuiet held (End number) = Unit {0}
 IsQuiet held (Piece number piece) = (piece ≡ []) ⊎ (has_slot number held ≡ false)
 IsQuiet held (Pull number) = has_search number held ≡ false
 IsQuiet held (Open number) = ⊥
-IsQuiet held (Schedule inst octets) = ⊥
-IsQuiet held (Withdraw inst id) = ⊥
+IsQuiet held (Schedule institution octets) = ⊥
+IsQuiet held (Withdraw institution id) = ⊥
 
 -- The tables of a server that is not spent have not failed. A new server is so, and stays so.
 abbrev pub IsWorking : {Tables : Type 0} → (Tables → State) → ServerView Tables → Type 0

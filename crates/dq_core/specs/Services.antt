@@ -8,7 +8,7 @@ use Rattle.dq_dataset.specs.Canonical.{canonical}
 use Rattle.dq_dimse.specs.declared.command.Command.{Command}
 use Rattle.dq_dimse.specs.Received.{Message}
 use Rattle.dq_dimse.specs.CommandFields.{c_cancel, c_echo, c_find, c_store, n_create, n_set, response_bit}
-use Rattle.dq_dimse.specs.Statuses.{success, cancel, pending, pending_without_optional_keys, sop_class_not_supported, unrecognized_operation}
+use Rattle.dq_dimse.specs.Statuses.{success, cancel, pending_with_optional_keys, pending_without_optional_keys, sop_class_not_supported, unrecognized_operation}
 use Rattle.std.specs.Option.{option_map_or}
 use Rattle.std.specs.Str.{bytes_eq}
 use Rattle.dq_assoc.specs.declared.agreement.AcceptedContext.{AcceptedContext}
@@ -22,12 +22,12 @@ use Rattle.dq_config.specs.Limits.{Limits}
 use Rattle.dq_assoc.specs.Classes.{uid_of, service_of}
 use Rattle.dq_assoc.specs.Negotiation.{context_of}
 use Rattle.dq_match.specs.declared.responses.Found.{Found}
-use Rattle.dq_store.specs.Storing.{store_outcome}
+use Rattle.dq_store.specs.CStore.{store_outcome}
 use Rattle.dq_find.specs.Queries.{query_outcome}
 use Rattle.dq_worklist.specs.Queries.{worklist_outcome}
 use Rattle.dq_worklist.specs.Orders.{schedule_outcome, withdrawn}
-use Rattle.dq_mpps.specs.Creating.{create_outcome}
-use Rattle.dq_mpps.specs.Changing.{set_outcome}
+use Rattle.dq_mpps.specs.NCreate.{create_outcome}
+use Rattle.dq_mpps.specs.NSet.{set_outcome}
 use Rattle.dq_tables.specs.Rows.{Record, Edit}
 use Rattle.dq_core.specs.declared.dimse_operation.DimseOperation.{DimseOperation}
 use Rattle.dq_core.specs.declared.dimse_operation.DimseOperation.TheVariants.{Echo, Store, FindStudies, FindEntries, CreateStep, SetStep}
@@ -92,7 +92,8 @@ response class command status data_set =
 
 -- the status of the responses before the last (PS3.4 section C.4.1.1.4)
 abbrev pub pending_status : Bool → ℕ
-pending_status optional = if optional then pending_without_optional_keys else pending
+pending_status optional =
+    if optional then pending_without_optional_keys else pending_with_optional_keys
 
 -- the response with an answer, in the context's transfer syntax
 abbrev pub pending_response : AcceptedContext → Command → Bool → ElementList → Response
@@ -182,8 +183,8 @@ served_by context command outcome =
 
 -- What a message on an association is answered with and changes. A C-CANCEL has no response, and a
 -- message on a context that was not accepted has none.
-unfoldable pub served : Limits → List Record → Agreement → Message → Served
-served limits records agreement message =
+unfoldable pub service_of_message : Limits → List Record → Agreement → Message → Served
+service_of_message limits records agreement message =
     if message.command.code == c_cancel then no_response
     else option_map_or (λ (context : AcceptedContext). served_by context message.command
     (message_outcome agreement context limits message records))

@@ -48,15 +48,15 @@ operations_by None changes = []
 operations_by (Some i) changes = map (by i.name) changes
 
 abbrev pub answer_turn : Option Institution → World → Connection → List ℕ → Answer → EventEffect
-answer_turn owner world c piece answer = record {
+answer_turn institution world c piece answer = record {
   reply = reply.Octets c.number answer.octets answer.close;
-  operations = operations_by owner answer.changes;
+  operations = operations_by institution answer.changes;
   connections = after_piece c piece answer world.connections;
 }
 
 abbrev pub owner_turn : Option Institution → List Institution → World → Connection → List ℕ → EventEffect
-owner_turn owner institutions world c piece =
-    answer_turn owner world c piece (answer_by owner institutions world c piece)
+owner_turn institution institutions world c piece =
+    answer_turn institution world c piece (answer_by institution institutions world c piece)
 
 abbrev pub piece_turn : List Institution → World → List ℕ → Option Connection → EventEffect
 piece_turn institutions world piece None = quiet_turn reply.Ignored world.connections
@@ -103,10 +103,10 @@ turn institutions world (event.End number) =
     end_turn world (connection_in number world.connections)
 turn institutions world (event.Pull number) =
     pull_turn world (connection_in number world.connections)
-turn institutions world (event.Schedule inst octets) =
-    order_turn world (Scheduling octets) (institution_named institutions inst)
-turn institutions world (event.Withdraw inst id) =
-    order_turn world (Withdrawal id) (institution_named institutions inst)
+turn institutions world (event.Schedule institution octets) =
+    order_turn world (Scheduling octets) (institution_named institutions institution)
+turn institutions world (event.Withdraw institution id) =
+    order_turn world (Withdrawal id) (institution_named institutions institution)
 
 abbrev pub world_after_turn : World → EventEffect → World
 world_after_turn world t =

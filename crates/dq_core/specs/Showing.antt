@@ -11,7 +11,7 @@ use Rattle.dq_worklist.specs.Queries as worklist
 use Rattle.dq_tables.specs.declared.row.Kind.TheVariants.{Step}
 use Rattle.dq_tables.specs.declared.row.Row.{Row}
 use Rattle.dq_tables.specs.Rows.{Record, of}
-use Rattle.dq_tables.specs.Finding.{records_of}
+use Rattle.dq_tables.specs.Lookups.{records_of}
 use Rattle.dq_tables.specs.Records.{data_set_of}
 use Rattle.dq_core.specs.declared.showing.SearchKind.{SearchKind}
 use Rattle.dq_core.specs.declared.showing.SearchKind.TheVariants.{StudyRoot, Worklist}

@@ -23,7 +23,7 @@ use Rattle.dq_core.specs.declared.connections.Connections.{Connections}
 use Rattle.dq_core.specs.declared.slot.Slot.{Slot}
 use Rattle.dq_core.specs.declared.slot.Taken.{Taken as HeldTaken}
 use Rattle.dq_core.specs.Pages.{OpenQuery}
-use Rattle.dq_archive.specs.declared.later.Added.{Added}
+use Rattle.dq_archive.specs.declared.additions.Addition.{Addition}
 use Rattle.dq_core.specs.declared.pages.OpenQuery.{OpenQuery as HeldQuery}
 use Rattle.dq_core.specs.Additions.{log_of}
 use Rattle.dq_core.specs.Queries.{open_query_in, query_then}
@@ -37,18 +37,19 @@ use Rattle.dq_core.specs.Shared.{World, EventEffect, answer_by, operations_by}
 use Rattle.dq_core.specs.declared.event.Reply.{Reply}
 
 -- the name of the institution that has a connection on which something is agreed
-abbrev pub home_of : Option Institution → Option Agreement → Option (List ℕ)
-home_of (Some i) (Some agreement) = Some i.name
-home_of (Some i) None = None
-home_of None agreement = None
+abbrev pub associated_institution : Option Institution → Option Agreement → Option (List ℕ)
+associated_institution (Some i) (Some agreement) = Some i.name
+associated_institution (Some i) None = None
+associated_institution None agreement = None
 
 -- a slot that was given PDUs of which none closed, on a connection of an owner
-pub record StandsAt (owner : Option Institution) (slot : Slot) (pdus : List Pdu) : Type 0 where
+pub record StandsAt (institution : Option Institution) (slot : Slot) (pdus : List Pdu) : Type 0 where
   pub association : WasGivenPdus pdus slot.association
   pub not_closed : is_closed (held_state slot.association) ≡ false
-  pub home : slot.home ≡ home_of owner (held_agreement slot.association)
+  pub slot_institution : slot.institution
+      ≡ associated_institution institution (held_agreement slot.association)
   pub owned : (agreement : Agreement) → held_agreement slot.association ≡ Some agreement
-      → IsSome owner
+      → IsSome institution
 
 -- the slot of a connection that is held
 pub record IsHeld (institutions : List Institution) (slot : Slot) (c : Connection) : Type 0 where
@@ -57,38 +58,38 @@ pub record IsHeld (institutions : List Institution) (slot : Slot) (c : Connectio
   pub faultless : (pdus_in c.stream).fault ≡ None
   pub stands : StandsAt (owner institutions c.stream) slot (pdus_in c.stream).list
 
--- the institution that has its home in a slot
+-- the institution of a slot
 abbrev pub institution_at : List Institution → Option (List ℕ) → Option Institution
 institution_at institutions None = None
-institution_at institutions (Some home) = institution_named institutions home
+institution_at institutions (Some institution) = institution_named institutions institution
 
 -- the responses that are left of the C-FIND that is open in a slot, by the rows and by what was
 -- added to each institution since
-abbrev pub query_at : List Institution → List Row → List (List Added) → Option (List ℕ)
+abbrev pub query_at : List Institution → List Row → List (List Addition) → Option (List ℕ)
     → Option HeldQuery → Option OpenQuery
 query_at institutions rows logs None query = open_query_in [] query
-query_at institutions rows logs (Some home) query =
-    query_then home rows (log_of institutions logs home) query
+query_at institutions rows logs (Some institution) query =
+    query_then institution rows (log_of institutions logs institution) query
 
--- A C-FIND is open in a slot only where an institution has its home there, and began when no more
--- was added to that than now.
-abbrev pub IsBegunAt : List Institution → List (List Added) → Option (List ℕ) → Option HeldQuery
+-- A C-FIND is open only in the slot of an institution, and began when no more was added to its
+-- records than now.
+abbrev pub IsBegunAt : List Institution → List (List Addition) → Option (List ℕ) → Option HeldQuery
     → Type 0
-IsBegunAt institutions logs home None = Unit {0}
+IsBegunAt institutions logs institution None = Unit {0}
 IsBegunAt institutions logs None (Some query) = ⊥
-IsBegunAt institutions logs (Some home) (Some query) =
-    (query.since ≤ length (log_of institutions logs home))
-    × (i : Institution) × (institution_named institutions home ≡ Some i) × (i.name ≡ home)
+IsBegunAt institutions logs (Some institution) (Some query) =
+    (query.since ≤ length (log_of institutions logs institution))
+    × (i : Institution) × (institution_named institutions institution ≡ Some i) × (i.name ≡ institution)
 
 -- The C-FIND that is open in a slot is that of the connection: what it finds are the answers that
 -- there were as it began.
-pub record Asks (institutions : List Institution) (rows : List Row) (logs : List (List Added))
+pub record Asks (institutions : List Institution) (rows : List Row) (logs : List (List Addition))
     (slot : Slot) (c : Connection) : Type 0 where
-  pub begun : IsBegunAt institutions logs slot.home slot.query
-  pub query : query_at institutions rows logs slot.home slot.query ≡ c.query
+  pub begun : IsBegunAt institutions logs slot.institution slot.query
+  pub query : query_at institutions rows logs slot.institution slot.query ≡ c.query
 
 -- the place of a connection, and the slot there
-pub record IsAt (institutions : List Institution) (rows : List Row) (logs : List (List Added))
+pub record IsAt (institutions : List Institution) (rows : List Row) (logs : List (List Addition))
     (slots : Slab Slot) (number place : ℕ) (c : Connection) : Type 0 where
   pub slot : Slot
   pub there : get slots place ≡ Some slot
@@ -113,7 +114,7 @@ abbrev pub has_search : ℕ → Connections → Bool
 has_search number held = has_query_at (place_under nat_cmp held.places number) held.slots
 
 -- numbers with their places, of the connections that are held
-abbrev pub AreAt : List Institution → List Row → List (List Added) → Slab Slot → List (ℕ × ℕ)
+abbrev pub AreAt : List Institution → List Row → List (List Addition) → Slab Slot → List (ℕ × ℕ)
     → List Connection → Type 0
 AreAt institutions rows logs slots [] [] = Unit {0}
 AreAt institutions rows logs slots (e ∷ es) (c ∷ cs) =
@@ -141,14 +142,14 @@ pub record Turned (institutions : List Institution) (t : EventEffect) (reply : R
   pub rows : after ≡ after_all t.operations before
   pub holds : AreHeld institutions after held t.connections
 
--- whether a slot has its home at the institution with a name
-abbrev pub is_home : List ℕ → Option (List ℕ) → Bool
-is_home name None = false
-is_home name (Some home) = bytes_eq home name
+-- whether a slot is of the institution with a name
+abbrev pub is_of_institution : List ℕ → Option (List ℕ) → Bool
+is_of_institution name None = false
+is_of_institution name (Some institution) = bytes_eq institution name
 
 -- whether a C-FIND is open in it there
 abbrev pub is_searching : List ℕ → Slot → Bool
-is_searching name slot = is_home name slot.home && is_some slot.query
+is_searching name slot = is_of_institution name slot.institution && is_some slot.query
 
 -- no C-FIND is open on a connection of the institution that has one, if one has
 abbrev pub IsUnsearched : Slab Slot → Option Institution → Type 0
@@ -157,13 +158,15 @@ IsUnsearched slots (Some i) =
     (place : ℕ) (slot : Slot) → get slots place ≡ Some slot → is_searching i.name slot ≡ false
 
 -- the counts after the connection of a slot ended, where it has one
-abbrev pub less_home : List Institution → List ℕ → Option (List ℕ) → List ℕ
-less_home institutions counts None = counts
-less_home institutions counts (Some home) = one_less counts (institution_index institutions home)
+abbrev pub less_association : List Institution → List ℕ → Option (List ℕ) → List ℕ
+less_association institutions counts None = counts
+less_association institutions counts (Some institution) =
+    one_less counts (institution_index institutions institution)
 
-abbrev pub without_home : List Institution → List ℕ → Option Slot → List ℕ
-without_home institutions counts None = counts
-without_home institutions counts (Some slot) = less_home institutions counts slot.home
+abbrev pub without_association : List Institution → List ℕ → Option Slot → List ℕ
+without_association institutions counts None = counts
+without_association institutions counts (Some slot) =
+    less_association institutions counts slot.institution
 
 -- the verdict by the counts of the institutions' open associations
 abbrev pub verdict_for : (List ℕ → ℕ) → Option Institution → Verdict
@@ -178,10 +181,10 @@ routed_first institutions pdus = None
 
 abbrev pub owner_with : List Institution → Option (List ℕ) → List Pdu → Option Institution
 owner_with institutions None pdus = routed_first institutions pdus
-owner_with institutions (Some home) pdus = institution_named institutions home
+owner_with institutions (Some institution) pdus = institution_named institutions institution
 
 abbrev pub owner_at : List Institution → Slot → List Pdu → Option Institution
-owner_at institutions slot pdus = owner_with institutions slot.home pdus
+owner_at institutions slot pdus = owner_with institutions slot.institution pdus
 
 -- what was taken on a connection is answered by the institution that has it, if one has
 abbrev pub connection_answer : Option Institution → List Row → Option Agreement → Option OpenQuery → Taken
@@ -211,8 +214,8 @@ pub record IsTaken (agreement : Option Agreement) (held : HeldTaken) (t : Taken)
   pub step : IsStep (accepted_in agreement) held.step t.step
 
 -- A piece was taken on a connection that is held, by its slot: the answer is the plain server's,
--- and the slot is of the connection with the piece, unless it closes. Where a slot has a home, it is
--- that of the institution that answers.
+-- and the slot is of the connection with the piece, unless it closes. Where a slot has an
+-- institution, that is the one that answers.
 pub record Took (institutions : List Institution) (world : World) (c : Connection) (piece : List ℕ)
     (institution : Option Institution) (held_taken : HeldTaken) (old new : Slot) : Type 0 where
   pub taken : Taken
@@ -220,9 +223,10 @@ pub record Took (institutions : List Institution) (world : World) (c : Connectio
   pub answer : let o = owner institutions (c.stream ++ piece) in
       AreAlike o (answer_by o institutions world c piece)
       institution (connection_answer institution world.rows (held_agreement new.association) c.query taken)
-  pub home : old.home ≡ home_of institution (held_agreement old.association)
+  pub slot_institution : old.institution
+      ≡ associated_institution institution (held_agreement old.association)
   pub query : new.query ≡ old.query
-  pub stays : (old.home ≡ None) ⊎ (new.home ≡ old.home)
+  pub stays : (old.institution ≡ None) ⊎ (new.institution ≡ old.institution)
   pub held : taken.step.close ≡ false → IsHeld institutions new (with_piece c piece c.query)
-      × (new.home ≡ home_of institution (held_agreement new.association))
+      × (new.institution ≡ associated_institution institution (held_agreement new.association))
   pub listed : (i : Institution) → institution ≡ Some i → Contains institutions i

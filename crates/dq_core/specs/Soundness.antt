@@ -40,8 +40,8 @@ BringsOctets (event.Open number) = Unit {0}
 BringsOctets (event.Piece number piece) = AreOctets piece
 BringsOctets (event.End number) = Unit {0}
 BringsOctets (event.Pull number) = Unit {0}
-BringsOctets (event.Schedule inst octets) = AreOctets octets
-BringsOctets (event.Withdraw inst id) = Unit {0}
+BringsOctets (event.Schedule institution octets) = AreOctets octets
+BringsOctets (event.Withdraw institution id) = Unit {0}
 
 abbrev pub BringOctets : List Event → Type 0
 BringOctets events = AllByRecursion BringsOctets events

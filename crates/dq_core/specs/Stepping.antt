@@ -2,7 +2,7 @@
 use Rattle.std.specs.Prelude.{◌≡◌, ℕ, true, false, ◌⊎◌, IsTrue, List, [], ◌++◌, take, Result, Err, OnOk, Option, None}
 use Rattle.dq_tables.specs.declared.row.Row.{Row}
 use Rattle.dq_tables.specs.Rows.{Operation, after_all}
-use Rattle.dq_tables.specs.Keeping.{State as Kept, IsSettled}
+use Rattle.dq_tables.specs.TableStates.{State as Kept, IsSettled}
 use Rattle.dq_core.specs.declared.event.Event.{Event}
 use Rattle.dq_core.specs.declared.event.Event.TheVariants.{Open, Piece, End, Pull, Schedule, Withdraw}
 use Rattle.dq_core.specs.declared.fault.Fault.{Fault}
@@ -16,8 +16,8 @@ Opens newest (Open number) = IsTrue (is_above newest number)
 Opens newest (Piece number piece) = Unit {0}
 Opens newest (End number) = Unit {0}
 Opens newest (Pull number) = Unit {0}
-Opens newest (Schedule inst octets) = Unit {0}
-Opens newest (Withdraw inst id) = Unit {0}
+Opens newest (Schedule institution octets) = Unit {0}
+Opens newest (Withdraw institution id) = Unit {0}
 
 -- the end of a connection, a piece or a pull for a number that is not held, an empty piece, and a
 -- pull where no C-FIND is open
@@ -27,8 +27,8 @@ TakesNoMemory connections (Piece number []) = Unit {0}
 TakesNoMemory connections (Piece number piece) = connection_in number connections ≡ None
 TakesNoMemory connections (Pull number) = is_pending number connections ≡ false
 TakesNoMemory connections (Open number) = ⊥
-TakesNoMemory connections (Schedule inst octets) = ⊥
-TakesNoMemory connections (Withdraw inst id) = ⊥
+TakesNoMemory connections (Schedule institution octets) = ⊥
+TakesNoMemory connections (Withdraw institution id) = ⊥
 
 -- What was not honest does not become so. Store is answered only where the tables failed in the
 -- call. Where a crash could leave the rows alone before an answer, it can leave nothing else after

@@ -2,7 +2,7 @@
 use Rattle.std.specs.Prelude.{◌≡◌, ℕ, true, false, List, Some}
 use Rattle.std.specs.Result.{result_unwrap_or}
 use Rattle.dq_dataset.specs.Tree.{no_elements}
-use Rattle.dq_dataset.specs.Reading.{reading}
+use Rattle.dq_dataset.specs.DataSetReader.{data_set_read}
 use Rattle.dq_dimse.specs.Received.{Message}
 use Rattle.dq_dimse.specs.Statuses.{success, elements_discarded}
 use Rattle.dq_assoc.specs.declared.agreement.AcceptedContext.{AcceptedContext}
@@ -16,8 +16,8 @@ use Rattle.dq_config.specs.Limits.{Limits, limits_of}
 use Rattle.dq_tables.specs.declared.row.Row.{Row}
 use Rattle.dq_tables.specs.Rows.{Record, of, by, after}
 use Rattle.dq_store.specs.Levels.{stands_whole}
-use Rattle.dq_store.specs.Storing.{Instance, instance_in}
-use Rattle.dq_core.specs.Services.{Responses, served}
+use Rattle.dq_store.specs.CStore.{Instance, instance_in}
+use Rattle.dq_core.specs.Services.{Responses, service_of_message}
 use Rattle.dq_core.specs.Conversations.{Arrival, InputAt}
 
 -- Of an instance that was sent 0000 says that each element stands, with equal octets, in the record
@@ -31,10 +31,10 @@ pub record SaysWhatStands (records : List Record) (sent : Instance) (status : �
 abbrev pub IsToldTruly : Limits → List ℕ → List Row → Agreement → Message → Type 0
 IsToldTruly limits name rows agreement message = (context : AcceptedContext) (r : Responses)
     → context_of agreement message.context ≡ Some context → service_of context.class ≡ Storage
-    → (served limits (of name rows) agreement message).responses ≡ Some r
+    → (service_of_message limits (of name rows) agreement message).responses ≡ Some r
     → SaysWhatStands
-    (of name (after (by name (served limits (of name rows) agreement message).edits) rows))
-    (instance_in (result_unwrap_or (reading context.syntax message.octets) no_elements))
+    (of name (after (by name (service_of_message limits (of name rows) agreement message).edits) rows))
+    (instance_in (result_unwrap_or (data_set_read context.syntax message.octets) no_elements))
     r.final.0.status
 
 -- Each C-STORE on a connection of an institution is answered so, over the rows as it arrives.

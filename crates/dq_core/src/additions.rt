@@ -3,7 +3,7 @@ ghost use Rattle.std.specs.Prelude.{◌≡◌, [], IfOk, length};
 ghost use Rattle.dq_core.specs.Additions.{log_at, log_of, with_log};
 
 use crate::open_associations::place_of;
-use dq_archive::Added;
+use dq_archive::Addition;
 use dq_config::Config;
 use dq_list::Listed;
 use std::alloc::{AllocError, Global};
@@ -14,7 +14,7 @@ use std::mem;
 /// the records that there are, without those that were added since it began.
 #[derive(Drop)]
 pub(crate) struct Additions {
-    pub logs: Vec<Listed<Added>>,
+    pub logs: Vec<Listed<Addition>>,
 }
 
 impl Additions {
@@ -31,7 +31,7 @@ impl Additions {
     }
 
     /// What was added to the institution of a name.
-    pub(crate) fn of(&self, config: &Config, name: &[u8]) -> &[Added]
+    pub(crate) fn of(&self, config: &Config, name: &[u8]) -> &[Addition]
         ensures { result.now ≡ log_of config.now self.now.logs.items name.now }
     {
         match place_of(config, name) {
@@ -44,7 +44,7 @@ impl Additions {
     }
 
     /// Takes the log at a place out, so that something can be added to it.
-    pub(crate) fn take(&mut self, alloc: Global, place: Option<usize>) -> Listed<Added>
+    pub(crate) fn take(&mut self, alloc: Global, place: Option<usize>) -> Listed<Addition>
         ensures taken { result ≡ log_at self.old.logs.items place }
         ensures left { self.new.logs.items ≡ with_log self.old.logs.items place [] }
     {
@@ -58,7 +58,7 @@ impl Additions {
     }
 
     /// Puts a log in its place.
-    pub(crate) fn put(&mut self, place: Option<usize>, log: Listed<Added>)
+    pub(crate) fn put(&mut self, place: Option<usize>, log: Listed<Addition>)
         ensures { self.new.logs.items ≡ with_log self.old.logs.items place log }
     {
         if let Some(place) = place {

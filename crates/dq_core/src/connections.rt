@@ -20,7 +20,7 @@ ghost use Rattle.dq_tables.specs.declared.row.Row.{Row};
 ghost use Rattle.dq_core.specs.declared.slot.Slot.{Slot as TheSlot};
 ghost use Rattle.dq_core.specs.Additions.{log_at, with_log, owner_place};
 ghost use Rattle.dq_core.specs.OpenAssociations.{IsTallied, tally_of_name};
-ghost use Rattle.dq_core.specs.Slots.{IsUnsearched, is_searching, has_slot, has_search, AreHeld, IsHeld, StandsAt, Turned, Took, owner_at, verdict_for, without_home};
+ghost use Rattle.dq_core.specs.Slots.{IsUnsearched, is_searching, has_slot, has_search, AreHeld, IsHeld, StandsAt, Turned, Took, owner_at, verdict_for, without_association};
 
 use crate::additions::Additions;
 use crate::event::Reply;
@@ -28,7 +28,7 @@ use crate::fault::Fault;
 use crate::notes::{Notes, PduSummary};
 use crate::open_associations::{OpenAssociations, place_of};
 use crate::slot::{Called, Slot, Taken};
-use dq_archive::Added;
+use dq_archive::Addition;
 use dq_assoc::Verdict;
 use dq_assoc::laws::{a_longer_stream_adds_inputs, an_association_after_pdus};
 use dq_config::laws::{a_name_is_of_one, a_pair_is_of_one};
@@ -206,12 +206,12 @@ impl Connections {
         let Some(slot) = self.slots.get_mut(place) else {
             return Ok(Reply::Ignored);
         };
-        let was_open = slot.home.is_some();
+        let was_open = slot.institution.is_some();
         let (owner, taken, heard) = take_piece(alloc, &self.config, &self.tally, slot, piece)?;
         let close = taken.step.close;
         let is_open = stays_open(slot, close);
         notes.turn_to(number);
-        note_home(notes, slot, heard, was_open);
+        note_acceptance(notes, slot, heard, was_open);
         let ending = heard.ending(&taken.step);
         let at = owner_place(&self.config, owner);
         let mut log = take_log(alloc, &self.slots, &mut self.additions, at, owner);
@@ -280,7 +280,7 @@ impl Connections {
         let Some(place) = self.place_of(number) else {
             return Reply::Ignored;
         };
-        end_home(&self.config, &mut self.tally, self.slots.get(place));
+        end_association(&self.config, &mut self.tally, self.slots.get(place));
         self.remove(number, place);
         Reply::Done
     }
@@ -290,7 +290,7 @@ impl Connections {
 fn slot_for(alloc: Global, spares: &mut Vec<Slot>, number: u64) -> Slot
     ensures number { result.number ≡ number }
     ensures inbox { InboxAfter [] result.inbox }
-    ensures stands { (owner : Option Institution) → StandsAt owner result [] }
+    ensures stands { (institution : Option Institution) → StandsAt institution result [] }
     ensures query { result.query ≡ None }
 {
     match spares.pop() {
@@ -312,13 +312,13 @@ fn keep_spare(spares: &mut Vec<Slot>, mut slot: Slot) {
     }
 }
 
-/// The institution that has a slot after PDUs more: that of its home, and before it has one that of
-/// a request.
+/// The institution of a slot after more PDUs: the slot's own, or before it has one, that of a
+/// request.
 fn owner_of<'a>(config: &'a Config, slot: &Slot, pdus: &[Pdu]) -> Option<&'a Institution>
     ensures { option_copied result ≡ owner_at config.now slot.now pdus.now }
 {
-    match &slot.home {
-        Some(home) => config.institution(home.as_slice()),
+    match &slot.institution {
+        Some(name) => config.institution(name.as_slice()),
         None => match pdus.first() {
             Some(Pdu::Request(request)) => config.route(&request.called, &request.calling),
             _ => None,
@@ -374,7 +374,7 @@ fn take_log(
     additions: &mut Additions,
     place: Option<usize>,
     owner: Option<&Institution>,
-) -> Listed<Added>
+) -> Listed<Addition>
     ensures left { additions.new.logs.items ≡ with_log additions.old.logs.items place [] }
     ensures taken { (result ≡ log_at additions.old.logs.items place)
         ⊎ IsUnsearched slots.now (option_copied owner.entry) }
@@ -391,31 +391,31 @@ fn take_log(
 
 /// Whether a connection has an association after what was taken.
 fn stays_open(slot: &Slot, close: bool) -> bool
-    ensures { result ≡ (is_some slot.now.home && not close) }
+    ensures { result ≡ (is_some slot.now.institution && not close) }
 {
-    slot.home.is_some() && !close
+    slot.institution.is_some() && !close
 }
 
 /// Counts the association of a connection that ends, where it has one.
-fn end_home(config: &Config, tally: &mut OpenAssociations, slot: Option<&Slot>)
+fn end_association(config: &Config, tally: &mut OpenAssociations, slot: Option<&Slot>)
     ensures { tally.new.counts.items
-        ≡ without_home config.now tally.old.counts.items (option_copied slot.entry) }
+        ≡ without_association config.now tally.old.counts.items (option_copied slot.entry) }
 {
     let Some(slot) = slot else {
         return;
     };
-    if let Some(home) = &slot.home {
-        tally.ended(config, home.as_slice());
+    if let Some(name) = &slot.institution {
+        tally.ended(config, name.as_slice());
     }
 }
 
 /// Notes the association that a connection has, if it has one and had none before.
-fn note_home(notes: &mut Notes, slot: &Slot, heard: PduSummary, was_open: bool) {
+fn note_acceptance(notes: &mut Notes, slot: &Slot, heard: PduSummary, was_open: bool) {
     if was_open {
         return;
     }
-    if let Some(home) = &slot.home {
-        notes.accept(home, slot.association.agreement(), heard);
+    if let Some(name) = &slot.institution {
+        notes.accept(name, slot.association.agreement(), heard);
     }
 }
 

@@ -38,7 +38,7 @@ ghost use Rattle.dq_assoc.specs.Classes.{service_of, uid_of};
 ghost use Rattle.dq_find.specs.declared.query.Query.{Query};
 ghost use Rattle.dq_find.specs.Queries as study;
 ghost use Rattle.dq_worklist.specs.Queries as worklist;
-ghost use Rattle.dq_core.specs.Services.{ConsoleOrder, message_outcome, served, console_outcome};
+ghost use Rattle.dq_core.specs.Services.{ConsoleOrder, message_outcome, service_of_message, console_outcome};
 ghost use Rattle.dq_core.specs.Soundness.{HoldSound, AreMade, HoldsOctets, BringsOctets, BringOctets, CameAsOctets};
 ghost use Rattle.dq_core.specs.Stores.{IsToldTruly, IsToldTrulyAt};
 ghost use Rattle.dq_core.specs.Conversations.{Arrival, arrivals, IsAnswered, IsAnsweredRun, IsAnsweredAt, conversation_on, exchange, AreFinished, without_page_requests};
@@ -46,11 +46,11 @@ ghost use Rattle.dq_core.specs.declared.event.Reply.TheVariants.{Octets, Done, I
 ghost use Rattle.dq_core.specs.Examples as example;
 ghost use Rattle.dq_config.specs.Document.{built_in};
 ghost use Rattle.dq_worklist.specs.Orders.{schedule_outcome, withdrawn};
-ghost use Rattle.dq_mpps.specs.Creating.{create_outcome};
-ghost use Rattle.dq_mpps.specs.Changing.{set_outcome};
-ghost use Rattle.dq_store.specs.Storing.{store_outcome};
+ghost use Rattle.dq_mpps.specs.NCreate.{create_outcome};
+ghost use Rattle.dq_mpps.specs.NSet.{set_outcome};
+ghost use Rattle.dq_store.specs.CStore.{store_outcome};
 ghost use Rattle.dq_tables.specs.Sound.{IsSound};
-ghost use Rattle.dq_tables.specs.Keeping.{IsSettled};
+ghost use Rattle.dq_tables.specs.TableStates.{IsSettled};
 ghost use Rattle.dq_core.specs.Shared.{World};
 ghost use Rattle.dq_core.specs.ServerView.{ServerView};
 ghost use Rattle.dq_core.specs.Looking.{Looked};
@@ -522,7 +522,7 @@ pub fn rows_stay_sound()
         AllByRecursion (λ (row : Row). AreOctets row.octets) rows → HoldSound rows }
     ensures message { (name : List ℕ) (rows : List Row) (limits : Limits)
         (agreement : Agreement) (message : Message) → AreOctets message.octets → HoldSound rows →
-        HoldSound (after (by name (served limits (of name rows) agreement message).edits) rows) }
+        HoldSound (after (by name (service_of_message limits (of name rows) agreement message).edits) rows) }
     ensures order { (name : List ℕ) (rows : List Row) (limits : Limits) (order : ConsoleOrder) →
         HoldsOctets order → HoldSound rows →
         HoldSound (after (by name (console_outcome limits (of name rows) order).edits) rows) }

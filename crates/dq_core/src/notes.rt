@@ -154,14 +154,14 @@ impl Notes {
     /// An association is open at the institution of a name.
     pub(crate) fn accept(
         &mut self,
-        home: &Listed<u8>,
+        name: &Listed<u8>,
         agreement: Option<&Agreement>,
         heard: PduSummary,
     ) {
         let (Some(agreement), Some(titles)) = (agreement, heard.titles) else {
             return;
         };
-        match Listed::copy_of(self.alloc, home.as_slice()) {
+        match Listed::copy_of(self.alloc, name.as_slice()) {
             Ok(institution) => self.put(LogEvent::Accepted {
                 institution,
                 titles,

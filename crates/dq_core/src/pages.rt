@@ -4,7 +4,7 @@ ghost use Rattle.dq_dimse.specs.CommandRefs.{command_of_ref};
 ghost use Rattle.dq_core.specs.Services.{is_of_instance, named_instance, response_command, response, pending_status};
 ghost use Rattle.dq_core.specs.Pages.{responses_octets, rest, without_first, page, cancel_reaction};
 ghost use Rattle.dq_tables.specs.Rows.{Record};
-ghost use Rattle.dq_archive.specs.Pasts.{state_in, records_in};
+ghost use Rattle.dq_archive.specs.PastArchives.{state_in, records_in};
 ghost use Rattle.dq_core.specs.declared.pages.OpenQuery.{OpenQuery as HeldQuery};
 ghost use Rattle.dq_core.specs.Queries.{at_hand, open_query_of, open_query_in, command_octets, LooksBack};
 

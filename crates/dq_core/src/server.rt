@@ -1,7 +1,7 @@
 ghost use Rattle.std.specs.Prelude.{◌≡◌, ◌≢◌, ◌<◌, ◌≤◌, ◌↔◌, ◌⊎◌, ℕ, vec_capacity, List, ◌∷◌, [], ◌++◌, length, take, filter, Contains, Some, None, true, false, IsTrue, is_some, IsOk, IfOk, OnOk, IfErr, OnErr, IsErrOf, MatchResult};
 ghost use Rattle.dq_config.specs.declared.config.Institution.{Institution};
 ghost use Rattle.dq_tables.specs.declared.row.Row.{Row};
-ghost use Rattle.dq_tables.specs.Keeping.{IsSettled};
+ghost use Rattle.dq_tables.specs.TableStates.{IsSettled};
 ghost use Rattle.dq_tables.specs.Rows.{of};
 ghost use Rattle.dq_core.specs.Connections.{connection_in, is_pending};
 ghost use Rattle.dq_core.specs.Shared.{World, turn, world_after, replies};
@@ -15,7 +15,7 @@ ghost use Rattle.dq_core.specs.Histories.{is_above, newest_after, rises_from, is
 ghost use Rattle.dq_core.specs.Stepping.{Opens, TakesNoMemory, HealthAfter, MayLeaveAfter, IsPartOf};
 ghost use Rattle.dq_core.specs.Slots.{has_slot, has_search, AreHeld, Turned};
 ghost use Rattle.dq_core.specs.ServerView.{IsQuiet, IsWorking, Refines};
-ghost use Rattle.dq_tables.specs.Finding.{rows_of};
+ghost use Rattle.dq_tables.specs.Lookups.{rows_of};
 ghost use Rattle.dq_core.specs.Looking.{Looked, FailsToLook};
 ghost use Rattle.dq_core.specs.Showing.{found_for, steps_for};
 

@@ -6,14 +6,14 @@ ghost use Rattle.dq_dimse.specs.Received.{Message as Received};
 ghost use Rattle.dq_assoc.specs.Holding.{accepted_by};
 ghost use Rattle.dq_config.specs.Limits.{limits_of};
 ghost use Rattle.dq_tables.specs.Rows.{Record, of};
-ghost use Rattle.dq_find.specs.Lazily.{found_then};
+ghost use Rattle.dq_find.specs.LazyAnswers.{found_then};
 ghost use Rattle.dq_core.specs.Services.{command_field_of, status_alone, operation_outcome, message_outcome};
 ghost use Rattle.dq_core.specs.Stepping.{HealthAfter, MayLeaveAfter};
-ghost use Rattle.dq_tables.specs.Keeping.{Reads};
+ghost use Rattle.dq_tables.specs.TableStates.{Reads};
 ghost use Rattle.dq_core.specs.Pages.{rest, page};
 ghost use Rattle.dq_core.specs.declared.pages.OpenQuery.{OpenQuery as HeldQuery};
 ghost use Rattle.dq_core.specs.Effects.{Operates, AnswerApplied, AnswerPartlyApplied, Taken as Pure, served_answer, messages_answer, taken_answer};
-ghost use Rattle.dq_archive.specs.Later.{IsTold};
+ghost use Rattle.dq_archive.specs.Additions.{IsTold};
 ghost use Rattle.dq_core.specs.Queries.{found_left, open_query_of, records_since, query_then, IsBegun};
 ghost use Rattle.dq_core.specs.Slots.{IsTaken};
 
@@ -24,7 +24,7 @@ use crate::fault::Fault;
 use crate::notes::{Notes, ServedNote};
 use crate::pages::OpenQuery;
 use crate::slot::Taken;
-use dq_archive::{Added, Past};
+use dq_archive::{Addition, Past};
 use dq_assoc::{AcceptedContext, Agreement};
 use dq_config::Institution;
 use dq_dataset::{DataSet, Syntax};
@@ -48,9 +48,9 @@ pub(crate) struct Provider<'a> {
 
 /// The institution that has a connection, and what was added there while searches were open.
 #[derive(Clone, Copy)]
-pub(crate) struct Home<'a> {
+pub(crate) struct SearchScope<'a> {
     pub institution: &'a Institution,
-    pub log: &'a [Added],
+    pub log: &'a [Addition],
 }
 
 /// What a connection is answered: octets, and the C-FIND that is open on it afterwards.
@@ -104,11 +104,11 @@ fn identifier(
 }
 
 impl<'a> Provider<'a> {
-    /// Where its searches look.
-    fn home(self, log: &'a [Added]) -> Home<'a>
+    /// The records in which its searches look.
+    fn search_scope(self, log: &'a [Addition]) -> SearchScope<'a>
         ensures { (result.institution ≡ self.entry.institution) × (result.log ≡ log.entry) }
     {
-        Home {
+        SearchScope {
             institution: self.institution,
             log,
         }
@@ -121,7 +121,7 @@ impl<'a> Provider<'a> {
         message: &Message,
         syntax: Syntax,
         tables: &mut T,
-        log: &mut Listed<Added>,
+        log: &mut Listed<Addition>,
     ) -> Result<Answers, Fault>
         requires { command_field_of operation ≡ message.now.command.code }
         ensures serves { (sent : Received) → Refines syntax message.now sent →
@@ -173,7 +173,7 @@ impl<'a> Provider<'a> {
         context: AcceptedContext,
         message: &Message,
         tables: &mut T,
-        log: &mut Listed<Added>,
+        log: &mut Listed<Addition>,
     ) -> Result<Answers, Fault>
         ensures serves { (sent : Received) → Refines context.syntax message.now sent →
             Operates (T.state tables.old) (T.state tables.new) self.entry.institution.now.name
@@ -217,7 +217,7 @@ impl<'a> Provider<'a> {
         octets: Vec<u8>,
         message: Message,
         tables: &mut T,
-        log: &mut Listed<Added>,
+        log: &mut Listed<Addition>,
         notes: &mut Notes,
     ) -> Result<Answered, Fault>
         ensures goes { HealthAfter (T.state tables.old) (T.state tables.new) result }
@@ -264,9 +264,9 @@ impl<'a> Provider<'a> {
             since: log.len(),
             note,
         };
-        let home = self.home(log.as_slice());
+        let scope = self.search_scope(log.as_slice());
         let mut octets = octets;
-        let query = send_page(home, query, tables, &mut octets, notes)?;
+        let query = send_page(scope, query, tables, &mut octets, notes)?;
         Ok(Answered { octets, query })
     }
 
@@ -277,7 +277,7 @@ impl<'a> Provider<'a> {
         answered: Answered,
         message: Message,
         tables: &mut T,
-        log: &mut Listed<Added>,
+        log: &mut Listed<Addition>,
         notes: &mut Notes,
     ) -> Result<Answered, Fault>
         ensures goes { HealthAfter (T.state tables.old) (T.state tables.new) result }
@@ -317,8 +317,8 @@ impl<'a> Provider<'a> {
             let query = open.cancel(tables.alloc(), id, &mut octets, notes)?;
             return Ok(Answered { octets, query });
         }
-        let home = self.home(log.as_slice());
-        send_rest(home, open, tables, &mut octets, notes)?;
+        let scope = self.search_scope(log.as_slice());
+        send_rest(scope, open, tables, &mut octets, notes)?;
         self.serve(octets, message, tables, log, notes)
     }
 
@@ -328,7 +328,7 @@ impl<'a> Provider<'a> {
         answered: Answered,
         messages: Vec<Message>,
         tables: &mut T,
-        log: &mut Listed<Added>,
+        log: &mut Listed<Addition>,
         notes: &mut Notes,
     ) -> Result<Answered, Fault>
         ensures goes { HealthAfter (T.state tables.old) (T.state tables.new) result }
@@ -374,7 +374,7 @@ impl<'a> Provider<'a> {
         query: Option<OpenQuery>,
         taken: Taken,
         tables: &mut T,
-        log: &mut Listed<Added>,
+        log: &mut Listed<Addition>,
         notes: &mut Notes,
     ) -> Result<Answered, Fault>
         ensures goes { HealthAfter (T.state tables.old) (T.state tables.new) result }
@@ -417,7 +417,7 @@ impl<'a> Provider<'a> {
 
 /// Sends all that is left of a C-FIND of an institution, by what was logged since it began.
 fn send_rest<T: Tables>(
-    home: Home<'_>,
+    scope: SearchScope<'_>,
     query: OpenQuery,
     tables: &mut T,
     out: &mut Vec<u8>,
@@ -425,17 +425,17 @@ fn send_rest<T: Tables>(
 ) -> Result<(), TableFault>
     ensures reads { Reads (T.state tables.old) (T.state tables.new) result }
     ensures sent { (T.state tables.new).honest → OnOk result (out.new.items ≡ out.old.items
-        ++ rest (open_query_of (records_since home.entry.institution.now.name
-        (T.state tables.old).rows home.entry.log.now query.since) query)) }
+        ++ rest (open_query_of (records_since scope.entry.institution.now.name
+        (T.state tables.old).rows scope.entry.log.now query.since) query)) }
 {
-    let later = since(home.log, query.since);
-    let mut archive = Past::new(tables, home.institution, later);
+    let later = since(scope.log, query.since);
+    let mut archive = Past::new(tables, scope.institution, later);
     query.send_rest(&mut archive, out, notes)
 }
 
 /// Sends the next page of a C-FIND of an institution, by what was logged since it began.
 pub(crate) fn send_page<T: Tables>(
-    home: Home<'_>,
+    scope: SearchScope<'_>,
     query: OpenQuery,
     tables: &mut T,
     out: &mut Vec<u8>,
@@ -443,23 +443,23 @@ pub(crate) fn send_page<T: Tables>(
 ) -> Result<Option<OpenQuery>, TableFault>
     ensures reads { Reads (T.state tables.old) (T.state tables.new) result }
     ensures sent { (T.state tables.new).honest → IfOk result (λ left.
-        let name = home.entry.institution.now.name in
+        let name = scope.entry.institution.now.name in
         let asked = open_query_of (records_since name (T.state tables.old).rows
-        home.entry.log.now query.since) query in
+        scope.entry.log.now query.since) query in
         (out.new.items ≡ out.old.items ++ (page asked).octets)
-        × (query_then name (T.state tables.old).rows home.entry.log.now left
+        × (query_then name (T.state tables.old).rows scope.entry.log.now left
         ≡ (page asked).query)) }
     ensures since { IfOk result (λ left. (q : HeldQuery) → left ≡ Some q
         → q.since ≡ query.since) }
 {
-    let later = since(home.log, query.since);
-    let mut archive = Past::new(tables, home.institution, later);
+    let later = since(scope.log, query.since);
+    let mut archive = Past::new(tables, scope.institution, later);
     let left = query.send_page(&mut archive, out, notes)?;
     Ok(left)
 }
 
 /// What was logged after so many.
-fn since(log: &[Added], count: usize) -> &[Added]
+fn since(log: &[Addition], count: usize) -> &[Addition]
     ensures { result.now ≡ drop count log.now }
 {
     &log[count.min(log.len())..]

@@ -1,6 +1,6 @@
 //! What an institution is shown of what it keeps, a page at a time.
 ghost use Rattle.std.specs.Prelude.{◌≡◌, List, map, min, IfOk};
-ghost use Rattle.dq_tables.specs.Keeping.{Reads};
+ghost use Rattle.dq_tables.specs.TableStates.{Reads};
 ghost use Rattle.dq_tables.specs.Records.{data_set_of};
 ghost use Rattle.dq_tables.specs.Rows.{of};
 ghost use Rattle.dq_tables.specs.declared.row.Row.{Row as TheRow};

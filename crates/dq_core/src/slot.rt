@@ -14,15 +14,15 @@ ghost use Rattle.dq_core.specs.Effects.{AnswerApplied, AnswerPartlyApplied, Take
 ghost use Rattle.dq_core.specs.Pages.{next_page};
 ghost use Rattle.dq_tables.specs.declared.row.Row.{Row};
 ghost use Rattle.dq_core.specs.Queries.{IsBegun, IsToldBy, query_by};
-ghost use Rattle.dq_core.specs.Slots.{IsTaken, StandsAt, connection_answer, home_of, institution_at, is_searching, query_at, IsBegunAt};
+ghost use Rattle.dq_core.specs.Slots.{IsTaken, StandsAt, connection_answer, associated_institution, institution_at, is_searching, query_at, IsBegunAt};
 ghost use Rattle.dq_core.specs.Stepping.{HealthAfter, MayLeaveAfter};
 
 use crate::additions::Additions;
 use crate::fault::Fault;
 use crate::notes::Notes;
 use crate::pages::OpenQuery;
-use crate::service::{Home, Provider, answer_unserved, send_page};
-use dq_archive::Added;
+use crate::service::{Provider, SearchScope, answer_unserved, send_page};
+use dq_archive::Addition;
 use dq_assoc::laws::{an_association_after_pdus, pdus_in_parts};
 use dq_assoc::{Agreement, Association, State, Step, Verdict};
 use dq_config::{Config, Institution};
@@ -39,7 +39,7 @@ pub(crate) struct Slot {
     pub number: u64,
     pub inbox: Inbox,
     pub association: Association,
-    pub home: Option<Listed<u8>>,
+    pub institution: Option<Listed<u8>>,
     pub query: Option<OpenQuery>,
 }
 
@@ -63,14 +63,14 @@ impl Slot {
     pub(crate) fn new(alloc: Global, number: u64) -> Self
         ensures number { result.number ≡ number }
         ensures inbox { InboxAfter [] result.inbox }
-        ensures stands { (owner : Option Institution) → StandsAt owner result [] }
+        ensures stands { (institution : Option Institution) → StandsAt institution result [] }
         ensures query { result.query ≡ None }
     {
         Slot {
             number,
             inbox: Inbox::new(alloc),
             association: Association::new(alloc),
-            home: None,
+            institution: None,
             query: None,
         }
     }
@@ -80,13 +80,13 @@ impl Slot {
     pub(crate) fn reset(&mut self, number: u64)
         ensures number { self.new.number ≡ number }
         ensures inbox { InboxAfter [] self.new.inbox }
-        ensures stands { (owner : Option Institution) → StandsAt owner self.new [] }
+        ensures stands { (institution : Option Institution) → StandsAt institution self.new [] }
         ensures query { self.new.query ≡ None }
     {
         self.number = number;
         self.inbox.reset();
         self.association.reset();
-        self.home = None;
+        self.institution = None;
         self.query = None;
     }
 
@@ -94,8 +94,8 @@ impl Slot {
     pub(crate) fn is_searching(&self, name: &[u8]) -> bool
         ensures { result ≡ is_searching name.now self.now }
     {
-        match (&self.home, &self.query) {
-            (Some(home), Some(_)) => home.as_slice() == name,
+        match (&self.institution, &self.query) {
+            (Some(institution), Some(_)) => institution.as_slice() == name,
             _ => false,
         }
     }
@@ -114,19 +114,19 @@ impl Slot {
         ensures crash { (T.state tables.new).honest → (r : List Row) →
             (T.state tables.new).may_leave r → (T.state tables.old).may_leave r }
         ensures page { (T.state tables.new).honest →
-            IsBegunAt config.now additions.now.logs.items self.old.home self.old.query →
+            IsBegunAt config.now additions.now.logs.items self.old.institution self.old.query →
             IfOk result (λ octets. octets.items ≡ (next_page
             (query_at config.now (T.state tables.old).rows additions.now.logs.items
-            self.old.home self.old.query)).octets) }
+            self.old.institution self.old.query)).octets) }
         ensures left { (T.state tables.new).honest →
-            IsBegunAt config.now additions.now.logs.items self.old.home self.old.query →
+            IsBegunAt config.now additions.now.logs.items self.old.institution self.old.query →
             OnOk result (query_at config.now (T.state tables.old).rows additions.now.logs.items
-            self.old.home self.new.query ≡ (next_page
+            self.old.institution self.new.query ≡ (next_page
             (query_at config.now (T.state tables.old).rows additions.now.logs.items
-            self.old.home self.old.query)).query) }
-        ensures begun { IsBegunAt config.now additions.now.logs.items self.old.home
+            self.old.institution self.old.query)).query) }
+        ensures begun { IsBegunAt config.now additions.now.logs.items self.old.institution
             self.old.query → OnOk result
-            (IsBegunAt config.now additions.now.logs.items self.old.home self.new.query) }
+            (IsBegunAt config.now additions.now.logs.items self.old.institution self.new.query) }
         ensures keeps { self.new ≡ record self.old { query = self.new.query } }
         ensures fault { IfErr result (λ fault. fault ≢ Fault.Stopped) }
         ensures quiet { self.old.query ≡ None → IsOk result }
@@ -135,14 +135,14 @@ impl Slot {
         let Some(query) = self.query.take() else {
             return Ok(octets);
         };
-        let Some(institution) = institution_of(config, &self.home) else {
+        let Some(institution) = institution_of(config, &self.institution) else {
             return Ok(octets);
         };
-        let home = Home {
+        let scope = SearchScope {
             institution,
             log: additions.of(config, institution.name.as_slice()),
         };
-        self.query = send_page(home, query, tables, &mut octets, notes)?;
+        self.query = send_page(scope, query, tables, &mut octets, notes)?;
         Ok(octets)
     }
 
@@ -153,7 +153,7 @@ impl Slot {
         institution: Option<&Institution>,
         taken: Taken,
         tables: &mut T,
-        log: &mut Listed<Added>,
+        log: &mut Listed<Addition>,
         notes: &mut Notes,
     ) -> Result<Vec<u8>, Fault>
         ensures goes { HealthAfter (T.state tables.old) (T.state tables.new) result }
@@ -181,7 +181,7 @@ impl Slot {
             (T.state tables.new).rows log.old log.new) }
         ensures begun { IsBegun log.old self.old.query →
             OnOk result (IsBegun log.new self.new.query) }
-        ensures unserved { home_of (option_copied institution.entry)
+        ensures unserved { associated_institution (option_copied institution.entry)
             (held_agreement self.old.association) ≡ None →
             OnOk result (self.new.query ≡ self.old.query) }
         ensures fault { IfErr result (λ fault. fault ≢ Fault.Stopped) }
@@ -204,7 +204,7 @@ impl Slot {
     }
 
     /// Takes PDUs in order, up to one that closes, and then a fault of the stream (PS3.8 section
-    /// 9.2). A request that is accepted gives the connection its home.
+    /// 9.2). A request that is accepted gives the slot its institution.
     pub(crate) fn take(
         &mut self,
         alloc: Global,
@@ -229,8 +229,8 @@ impl Slot {
             × StandsAt (option_copied called.entry.institution) self.new (before ++ fed.pdus)) }
         ensures keeps { (self.new.number ≡ self.old.number) × (self.new.inbox ≡ self.old.inbox)
             × (self.new.query ≡ self.old.query) }
-        ensures home { held_state self.old.association ≡ Waiting
-            ⊎ (self.new.home ≡ self.old.home) }
+        ensures slot_institution { held_state self.old.association ≡ Waiting
+            ⊎ (self.new.institution ≡ self.old.institution) }
     {
         an_association_after_pdus();
         pdus_in_parts();
@@ -321,7 +321,11 @@ impl Slot {
                 step: answer,
             });
         }
-        self.home = home_for(alloc, called.institution, self.association.agreement())?;
+        self.institution = associated_name(
+            alloc,
+            called.institution,
+            self.association.agreement(),
+        )?;
         let pdus = rest.pdus.into_inner();
         let step = self.association.take_all(pdus, rest.fault)?;
         Ok(Taken {
@@ -331,24 +335,24 @@ impl Slot {
     }
 }
 
-/// The institution that has its home in a slot.
-fn institution_of<'a>(config: &'a Config, home: &Option<Listed<u8>>) -> Option<&'a Institution>
-    ensures { option_copied result ≡ institution_at config.now home.now }
+/// The institution of a slot.
+fn institution_of<'a>(config: &'a Config, name: &Option<Listed<u8>>) -> Option<&'a Institution>
+    ensures { option_copied result ≡ institution_at config.now name.now }
 {
-    match home {
-        Some(home) => config.institution(home.as_slice()),
+    match name {
+        Some(name) => config.institution(name.as_slice()),
         None => None,
     }
 }
 
 /// The name of the institution that has a connection on which something is agreed.
-fn home_for(
+fn associated_name(
     alloc: Global,
     institution: Option<&Institution>,
     agreement: Option<&Agreement>,
 ) -> Result<Option<Listed<u8>>, AllocError>
-    ensures { IfOk result (λ home. home
-        ≡ home_of (option_copied institution.entry) (option_copied agreement.entry)) }
+    ensures { IfOk result (λ name. name
+        ≡ associated_institution (option_copied institution.entry) (option_copied agreement.entry)) }
 {
     let (Some(institution), Some(_)) = (institution, agreement) else {
         return Ok(None);

@@ -1,7 +1,7 @@
 -- Checking elements or items one after the other, as a loop does.
 use Rattle.std.proofs.Common.{◌≡◌, ℕ, ◌≤◌, ◌<◌, List, ◌∷◌, length, Option, Some, None, Result, Ok, Err, refl, ◌∙◌, arith}
 use Rattle.dq_dataset.proofs.Types.{Tag, ReadFault, Syntax, Bound, Header, Element, Value, ElementList}
-use Rattle.dq_dataset.specs.Reading.{◌>>=◌, Readers, readers, element_by, elements_by, elements_after, item_by, items_by, items_after}
+use Rattle.dq_dataset.specs.DataSetReader.{◌>>=◌, Readers, readers, element_by, elements_by, elements_after, item_by, items_by, items_after}
 use Rattle.dq_dataset.specs.Lending.{rest_of, front_header, item_of}
 use Rattle.dq_dataset.proofs.Loops.{a_step_left}
 use Rattle.dq_dataset.proofs.Fields.{ok_is}

@@ -9,7 +9,7 @@ use Rattle.dq_dataset.specs.declared.sieve.walk.Cursor.{Cursor}
 use Rattle.dq_dataset.specs.declared.sieve.walk.Cursor.TheVariants.{InItems, InElements}
 use Rattle.dq_vr.specs.Dictionary.{known_vr}
 use Rattle.dq_dataset.specs.Rules.{vr_of, fits_enclosing}
-use Rattle.dq_dataset.specs.Reading.{may_nest, length_of}
+use Rattle.dq_dataset.specs.DataSetReader.{may_nest, length_of}
 use Rattle.dq_dataset.specs.Grammar.{IsPlaced, IsHeader, IsItemHeader, Spells, more, SpellsValue, plain, nested, one_item, bound_of, HasExtent, without_group_length}
 use Rattle.dq_dataset.specs.Faults.{HasFault, HasReach, in_value, after_element, in_item, after_item}
 use Rattle.dq_dataset.specs.Sifting.{reach_of, bound_by, until_of, Finishes, HasFirstFault, Extends, IsSplitByReach, Leads, LeadsTo, opened_reach, opened_left, StaysWithin, place_of_value}

@@ -5,7 +5,7 @@ use Rattle.std.proofs.lemmas.List.{take_at, length-append, append-nil}
 use Rattle.dq_dataset.proofs.Types.{Tag, Vr, ReadFault, Syntax, Bound, Filled, Content, Sequence, Value, ElementList}
 use Rattle.dq_vr.specs.Dictionary.{known_vr}
 use Rattle.dq_dataset.specs.Rules.{vr_of}
-use Rattle.dq_dataset.specs.Reading.{may_nest, length_of, fits_enclosing, header_at, item_header_at, end_at, value_by, element_by, elements_after, elements_by, content_by, item_by, items_after, items_by, readers, reading}
+use Rattle.dq_dataset.specs.DataSetReader.{may_nest, length_of, fits_enclosing, header_at, item_header_at, end_at, value_by, element_by, elements_after, elements_by, content_by, item_by, items_after, items_by, readers, data_set_read}
 use Rattle.dq_dataset.specs.Grammar.{IsHeader, IsPlaced, IsItemHeader, bound_of}
 use Rattle.dq_dataset.specs.Faults.{first_of, header_faults, item_faults, HasReach, HasFault, at_header, in_value, after_element, ItemsHaveFault, at_item, in_item, after_item, IsFaulty}
 use Rattle.dq_dataset.proofs.Headers.{header_again, header_long, item_again, item_long, no_end_before, no_end_before_item}
@@ -144,8 +144,8 @@ mutual
       (items_fail bound syntax levels rest f faulty))
 
 -- reading answers the first fault
-pub faulty_is_read : (syntax : Syntax) (octets : List ℕ) (f : ReadFault) → IsFaulty syntax octets f → reading syntax octets ≡ Err f
-unfolding reading
+pub faulty_is_read : (syntax : Syntax) (octets : List ℕ) (f : ReadFault) → IsFaulty syntax octets f → data_set_read syntax octets ≡ Err f
+unfolding data_set_read
 faulty_is_read syntax octets f faulty =
     let one_more : length octets + 1 ≡ suc (length octets) = omega arith in
     rw (one_more, elements_fail Filled syntax 16 None octets f faulty (length octets) (omega arith)) refl

@@ -5,7 +5,7 @@ use Rattle.std.proofs.lemmas.Bool.{cases_lt, ltb-false, le-ltb, eqb-true, eqb-fa
 use Rattle.std.proofs.lemmas.List.{take_at, drop_at, take-append-drop, length-append, length-take, get_or-drop, get_or-take, get_or_past}
 use Rattle.std.proofs.lemmas.Nat.{le_bytes_2, le_bytes_4, from_le_bytes-to_le_bytes_2, from_le_bytes-to_le_bytes_4}
 use Rattle.dq_dataset.proofs.Types.{Tag, ReadFault, Truncated}
-use Rattle.dq_dataset.specs.Reading.{◌>>=◌, check, number_at, tag_at, long_length_at}
+use Rattle.dq_dataset.specs.DataSetReader.{◌>>=◌, check, number_at, tag_at, long_length_at}
 use Rattle.dq_dataset.specs.Canonical.{tag_octets}
 use Rattle.dq_dataset.specs.Grammar.{IsLength}
 

@@ -3,7 +3,7 @@ use Rattle.std.proofs.Common.{◌≡◌, ◌≢◌, ℕ, ◌<◌, ◌^◌, Bool,
 use Rattle.std.proofs.lemmas.Bool.{eqb-true, ne_eqb}
 use Rattle.std.proofs.lemmas.List.{length-append}
 use Rattle.dq_dataset.proofs.Types.{Tag, ReadFault, Truncated, BadItem, Syntax, Bound, Filled, Delimited, Content, Header}
-use Rattle.dq_dataset.specs.Reading.{◌>>=◌, check, header_at, item_header_at, may_nest, length_of, fits_enclosing, front_at, item_front_at, end_at}
+use Rattle.dq_dataset.specs.DataSetReader.{◌>>=◌, check, header_at, item_header_at, may_nest, length_of, fits_enclosing, front_at, item_front_at, end_at}
 use Rattle.dq_dataset.specs.Grammar.{IsHeader, IsPlaced, IsItemHeader}
 use Rattle.dq_dataset.specs.Faults.{tag_in, first_of, header_faults, item_faults, ends_here, HasFault, at_header, ItemsHaveFault, at_item}
 use Rattle.dq_dataset.proofs.Fields.{IsBytes, no_fault}

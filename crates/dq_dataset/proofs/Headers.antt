@@ -7,7 +7,7 @@ use Rattle.dq_dataset.proofs.Types.{Tag, Vr, LengthForm, Two, Four, ReadFault, T
 use Rattle.dq_vr.specs.Dictionary.{known_vr}
 use Rattle.dq_vr.specs.Vr.{length_form_of, vr_with_letters}
 use Rattle.dq_dataset.specs.Rules.{agrees, content_of, vr_of}
-use Rattle.dq_dataset.specs.Reading.{◌>>=◌, check, number_at, tag_at, long_length_at, length_at, vr_or_fault, vr_at, spelling_at, follows, may_nest, length_of, fits_enclosing, front_at, header_at, item_front_at, item_header_at, end_at}
+use Rattle.dq_dataset.specs.DataSetReader.{◌>>=◌, check, number_at, tag_at, long_length_at, length_at, vr_or_fault, vr_at, spelling_at, follows, may_nest, length_of, fits_enclosing, front_at, header_at, item_front_at, item_header_at, end_at}
 use Rattle.dq_dataset.specs.Canonical.{tag_octets}
 use Rattle.dq_dataset.specs.Grammar.{IsLengthBehind, IsSpelling, IsHeader, IsPlaced, IsItemHeader, IsEnd, delimiter}
 use Rattle.dq_dataset.proofs.Fields.{IsBytes, bind_ok, check_ok, ok_is, Takes, Takes-then, wide16, wide32, number_takes, number_again, length_takes, length_again, length_four, tag_takes, tag_again}

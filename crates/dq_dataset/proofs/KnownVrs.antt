@@ -6,7 +6,7 @@ use Rattle.dq_dataset.specs.Rules.{vr_of, content_of, padded_value}
 use Rattle.dq_dataset.proofs.Types.{Tag, Vr, UN, ReadFault, Truncated, TagOrder, BadItem, TooDeep, Syntax, Bound, Filled, Delimited, Content, Plain, Sequence, Header, Element, Value, Octets, Items, ElementList, no_elements, element, sequence, ItemList, no_items, item}
 use Rattle.dq_dataset.specs.Facts.{AreElements, AreItems}
 use Rattle.dq_dataset.specs.View.{as_elements, elements_of, list_of}
-use Rattle.dq_dataset.specs.Reading.{◌>>=◌, Readers, check, may_nest, length_of, unless_ended, tag_at, spelling_at, follows, fits_enclosing, front_at, header_at, item_header_at, end_at, value_by, element_by, elements_after, elements_by, content_by, item_by, items_after, items_by, readers, reading}
+use Rattle.dq_dataset.specs.DataSetReader.{◌>>=◌, Readers, check, may_nest, length_of, unless_ended, tag_at, spelling_at, follows, fits_enclosing, front_at, header_at, item_header_at, end_at, value_by, element_by, elements_after, elements_by, content_by, item_by, items_after, items_by, readers, data_set_read}
 use Rattle.dq_dataset.proofs.Fields.{bind_ok, ok_is}
 use Rattle.dq_dataset.proofs.Headers.{fits_step, content_step, spelling_step, rises_step, placed_step, tag_step}
 use Rattle.dq_dataset.proofs.Views.{elements_of-as_elements}
@@ -99,8 +99,8 @@ module _ (P : Element → Type 0)
       after_read (readers n) bound syntax levels first.0.0 first.0.1 rest es (elements_read n bound syntax levels)
       (element_read n bound syntax levels last octets first.0.1 first.0.0 first.1) first.2
 
-  all_read : (syntax : Syntax) (octets : List ℕ) (d : ElementList) → reading syntax octets ≡ Ok d → AllByRecursion P (elements_of d)
-  unfolding reading
+  all_read : (syntax : Syntax) (octets : List ℕ) (d : ElementList) → data_set_read syntax octets ≡ Ok d → AllByRecursion P (elements_of d)
+  unfolding data_set_read
   all_read syntax octets d e = grind (arith, bind_ok, ok_is, elements_of-as_elements, elements_read)
 
 known_given : (n levels : ℕ) (syntax : Syntax) (last : Option Tag) (octets left rest : List ℕ) (h : Header) (v : Value)
@@ -108,7 +108,7 @@ known_given : (n levels : ℕ) (syntax : Syntax) (last : Option Tag) (octets lef
 known_given n levels syntax last octets left rest h v header value =
     value_of (readers n) levels h.vr h.content left rest h.tag v (header_vr syntax levels last octets left h header) value
 
-pub read_has_known_vrs : (syntax : Syntax) (octets : List ℕ) (d : ElementList) → reading syntax octets ≡ Ok d → AllByRecursion HasKnownVr (elements_of d)
+pub read_has_known_vrs : (syntax : Syntax) (octets : List ℕ) (d : ElementList) → data_set_read syntax octets ≡ Ok d → AllByRecursion HasKnownVr (elements_of d)
 read_has_known_vrs syntax octets d e = all_read HasKnownVr known_given syntax octets d e
 
 -- ---- inside items
@@ -186,7 +186,7 @@ inside_given n levels syntax last octets left rest h v header value = by_content
         subst (λ (p : Value × List ℕ). HasKnownInside p.0) (ok_is (Items items.0.0, items.0.1) (v, rest) items.2)
         (items_read n Delimited to (levels - 1) left items.0.0 items.0.1 items.1)
 
-pub read_has_known_inside : (syntax : Syntax) (octets : List ℕ) (d : ElementList) → reading syntax octets ≡ Ok d
+pub read_has_known_inside : (syntax : Syntax) (octets : List ℕ) (d : ElementList) → data_set_read syntax octets ≡ Ok d
     → AllByRecursion (λ (e : Element). HasKnownInside e.value) (elements_of d)
 read_has_known_inside syntax octets d e = all_read (λ (e : Element). HasKnownInside e.value) inside_given syntax octets d e
 

@@ -8,7 +8,7 @@ use Rattle.dq_dataset.proofs.Types.{Tag, Vr, ReadFault, Syntax, Bound, Filled, D
 use Rattle.dq_vr.specs.Dictionary.{known_vr}
 use Rattle.dq_dataset.specs.View.{elements_of, with_value}
 use Rattle.dq_dataset.specs.Rules.{padded_value, vr_of}
-use Rattle.dq_dataset.specs.Reading.{length_of}
+use Rattle.dq_dataset.specs.DataSetReader.{length_of}
 use Rattle.dq_dataset.specs.Grammar.{Spells, no_more, more, SpellsValue, plain, nested, SpellsItems, no_item, one_item, delimiter, without_group_length}
 use Rattle.dq_dataset.specs.Faults.{HasFault, after_element}
 use Rattle.dq_dataset.specs.Lending.{Spelled, spelled_as, octets_before_rest, next_at, lent_after, lent_in, lent_elements}

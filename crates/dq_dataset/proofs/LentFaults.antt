@@ -4,7 +4,7 @@ use Rattle.dq_list.specs.Octets.{AreOctets}
 use Rattle.dq_dataset.proofs.Types.{Tag, ReadFault, Syntax, Filled, Content, Header, Value}
 use Rattle.dq_vr.specs.Dictionary.{known_vr}
 use Rattle.dq_dataset.specs.Rules.{vr_of}
-use Rattle.dq_dataset.specs.Reading.{length_of, fits_enclosing, header_at, value_by, readers}
+use Rattle.dq_dataset.specs.DataSetReader.{length_of, fits_enclosing, header_at, value_by, readers}
 use Rattle.dq_dataset.specs.Grammar.{IsPlaced, IsHeader, SpellsValue}
 use Rattle.dq_dataset.specs.Faults.{HasFault, at_header}
 use Rattle.dq_dataset.specs.Lending.{octets_before_rest, next_at}

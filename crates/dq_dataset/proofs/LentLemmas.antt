@@ -4,7 +4,7 @@ use Rattle.std.proofs.lemmas.Bool.{ne_eqb}
 use Rattle.std.proofs.lemmas.List.{length-append}
 use Rattle.dq_list.specs.Octets.{AreOctets}
 use Rattle.dq_dataset.proofs.Types.{Tag, ReadFault, Syntax, Header, Value}
-use Rattle.dq_dataset.specs.Reading.{◌>>=◌, length_of, header_at, value_by, readers}
+use Rattle.dq_dataset.specs.DataSetReader.{◌>>=◌, length_of, header_at, value_by, readers}
 use Rattle.dq_dataset.specs.Lending.{Spelled, inner_syntax, spelled_as, octets_before_rest, next_at, lent_after, lent_in, lent_from}
 use Rattle.dq_dataset.proofs.Fields.{bind_ok, ok_is}
 use Rattle.dq_dataset.proofs.Headers.{ReadsHeader, header_takes, header_long}

@@ -3,7 +3,7 @@ use Rattle.std.proofs.Common.{◌≡◌, ◌≢◌, eq-eqb, ℕ, zero, suc, ◌�
 use Rattle.std.proofs.lemmas.List.{append-nil}
 use Rattle.std.proofs.lemmas.Bool.{ltb-true, ne_eqb}
 use Rattle.dq_dataset.proofs.Types.{Tag, ReadFault, NoMemory, Syntax, Bound, Content, Sequence, Header, Element, Value, ElementList}
-use Rattle.dq_dataset.specs.Reading.{◌>>=◌, readers, unless_group_length, may_nest, element_by, elements_by, elements_after, item_by, items_by, items_after}
+use Rattle.dq_dataset.specs.DataSetReader.{◌>>=◌, readers, unless_group_length, may_nest, element_by, elements_by, elements_after, item_by, items_by, items_after}
 
 -- what was read before, and what is still read
 abbrev pub with_front : {X : Type 0} → List X → Result (List X × List ℕ) ReadFault → Result (List X × List ℕ) ReadFault

@@ -4,7 +4,7 @@ use Rattle.std.proofs.lemmas.List.{length-append}
 use Rattle.dq_dataset.specs.declared.sieve.walk.Reach.{Reach}
 use Rattle.dq_dataset.specs.declared.sieve.walk.Reach.TheVariants.{Measured, Within, Endless}
 use Rattle.dq_dataset.specs.declared.sieve.walk.Cursor.{Cursor}
-use Rattle.dq_dataset.specs.Reading.{tag_at, front_at, item_front_at}
+use Rattle.dq_dataset.specs.DataSetReader.{tag_at, front_at, item_front_at}
 use Rattle.dq_dataset.specs.Sifting.{reach_of, opened_reach, opened_left, StaysWithin, EndsAt, IsUntil, LiesIn, left_around, AreNested, IsPart, HasMore}
 use Rattle.dq_dataset.proofs.Walks.{Around}
 use Rattle.dq_dataset.proofs.Entering.{Behind}

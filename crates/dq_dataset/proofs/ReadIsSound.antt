@@ -2,7 +2,7 @@
 use Rattle.std.proofs.Common.{◌≡◌, ℕ, suc, refl, sym, ap, subst, ◌∙◌, inl, inr, ◌+◌, ◌-◌, ◌<◌, ◌≤◌, true, List, length, Option, Some, None, Ok, arith}
 use Rattle.dq_dataset.proofs.Types.{Tag, Syntax, Filled, Element, ElementList, no_elements, element, sequence, ItemList, no_items, item}
 use Rattle.dq_dataset.specs.View.{as_elements, elements_of}
-use Rattle.dq_dataset.specs.Reading.{fits_enclosing, content_by, readers, reading}
+use Rattle.dq_dataset.specs.DataSetReader.{fits_enclosing, content_by, readers, data_set_read}
 use Rattle.dq_dataset.specs.Grammar.{bound_of}
 use Rattle.dq_dataset.specs.Facts.{AreElements, AreItems, IsDataSet}
 use Rattle.dq_dataset.proofs.Views.{as_elements-elements_of}
@@ -48,7 +48,7 @@ content_is_data_set syntax levels extent bytes es rest le enough ok e =
 
 pub elements_are_data_set : (syntax : Syntax) (bytes : List ℕ) (es : List Element) (rest : List ℕ) → IsBytes bytes
     → ((n : ℕ) → length bytes < n → (readers n).elements Filled syntax 16 None bytes ≡ Ok (es, rest)) → IsDataSet (as_elements es)
-unfolding reading
+unfolding data_set_read
 elements_are_data_set syntax bytes es rest ok e =
     spelled_is_sound syntax bytes (as_elements es)
     (reading_is_spelled syntax bytes (as_elements es) ok (rw (e (length bytes + 1) (omega arith)) refl))

@@ -18,7 +18,7 @@ use Rattle.dq_dataset.specs.declared.sieve.walk.Reach.TheVariants.{Endless}
 use Rattle.dq_dataset.specs.declared.sieve.walk.Cursor.TheVariants.{InElements}
 use Rattle.dq_dataset.specs.Sieve.{is_over_limit}
 use Rattle.dq_dataset.specs.View.{as_elements, elements_of}
-use Rattle.dq_dataset.specs.Reading.{front_at, end_at, may_nest}
+use Rattle.dq_dataset.specs.DataSetReader.{front_at, end_at, may_nest}
 use Rattle.dq_dataset.specs.Grammar.{IsPlaced, IsHeader, IsSpelled}
 use Rattle.dq_dataset.specs.Sifting.{WalkedLeads, LeadsOn}
 use Rattle.dq_dataset.specs.Sieving.{tag_is_listed, is_header_over_limit, kept_unless_over, KeepsElements, SiftsFrom, FollowsPast, FollowsInto, IsStage, SieveGoesOn, HasFed, SieveAfter, IsSieve, PastBy, IntoBy}

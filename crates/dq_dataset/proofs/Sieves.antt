@@ -12,7 +12,7 @@ use Rattle.dq_vr.specs.Dictionary.{known_vr}
 use Rattle.dq_dataset.specs.declared.sieve.walk.Reach.TheVariants.{Endless}
 use Rattle.dq_dataset.specs.declared.sieve.Sifted.{Sifted}
 use Rattle.dq_dataset.specs.Rules.{vr_of, fits_enclosing}
-use Rattle.dq_dataset.specs.Reading.{may_nest, length_of}
+use Rattle.dq_dataset.specs.DataSetReader.{may_nest, length_of}
 use Rattle.dq_dataset.specs.View.{elements_of}
 use Rattle.dq_dataset.specs.Editing.{is_listed}
 use Rattle.dq_dataset.specs.Grammar.{IsPlaced, IsHeader, no_more, more, SpellsValue, without_group_length, IsSpelled}

@@ -6,7 +6,7 @@ use Rattle.dq_dataset.proofs.Types.{Tag, Vr, Syntax, Bound, Filled, Content, Pla
 use Rattle.dq_vr.specs.Dictionary.{known_vr}
 use Rattle.dq_dataset.specs.View.{elements_of, with_value}
 use Rattle.dq_dataset.specs.Rules.{vr_of, padded_value}
-use Rattle.dq_dataset.specs.Reading.{may_nest, length_of, fits_enclosing, value_by, element_by, elements_after, elements_by, content_by, item_by, items_after, items_by, readers, reading}
+use Rattle.dq_dataset.specs.DataSetReader.{may_nest, length_of, fits_enclosing, value_by, element_by, elements_after, elements_by, content_by, item_by, items_after, items_by, readers, data_set_read}
 use Rattle.dq_dataset.specs.Grammar.{IsHeader, IsPlaced, IsEnd, IsItemHeader, Spells, no_more, more, SpellsValue, plain, nested, SpellsItems, no_item, one_item, bound_of, HasExtent, without_group_length, IsSpelled}
 use Rattle.dq_dataset.proofs.Views.{as_elements-elements_of, elements_of-with_value}
 use Rattle.dq_dataset.proofs.Headers.{header_again, header_long, item_again, item_long, Trails, end_again, no_end_before, no_end_before_item}
@@ -151,8 +151,8 @@ mutual
       (items_again bound syntax levels rest others others_spelled))
 
 -- what is spelled is read
-pub spelled_is_read : (syntax : Syntax) (octets : List ℕ) (d : ElementList) → IsSpelled syntax octets d → reading syntax octets ≡ Ok d
-unfolding reading
+pub spelled_is_read : (syntax : Syntax) (octets : List ℕ) (d : ElementList) → IsSpelled syntax octets d → data_set_read syntax octets ≡ Ok d
+unfolding data_set_read
 spelled_is_read syntax octets d spells =
     let again = elements_again Filled syntax 16 None octets d spells [] refl (length octets) (omega (arith, ap length (append-nil octets))) in
     let plus : length octets + 1 ≡ suc (length octets) = omega arith in

@@ -9,7 +9,7 @@ use Rattle.dq_vr.specs.Dictionary.{known_vr}
 use Rattle.dq_vr.specs.Tag.{is_below}
 use Rattle.dq_dataset.specs.View.{items_of, with_value}
 use Rattle.dq_dataset.specs.Rules.{is_sequence, agrees, content_of, vr_of, padded_value, pad_of}
-use Rattle.dq_dataset.specs.Reading.{follows}
+use Rattle.dq_dataset.specs.DataSetReader.{follows}
 use Rattle.dq_dataset.specs.Grammar.{IsHeader, IsPlaced, IsSpelling, Spells, no_more, more, SpellsValue, plain, nested, SpellsItems, no_item, one_item, bound_of, IsSpelled}
 use Rattle.dq_dataset.proofs.Fields.{done}
 use Rattle.dq_dataset.specs.Facts.{IsElementTag, IsPlain, IsSequence, AreElements, AreItems, IsDataSet}

@@ -5,7 +5,7 @@ use Rattle.std.proofs.lemmas.List.{take-append-drop, length-take, length-append,
 use Rattle.dq_dataset.proofs.Types.{Tag, Vr, ReadFault, Syntax, Bound, Filled, Delimited, Content, Plain, Sequence, Header, Value, Octets, Items, ElementList, no_elements}
 use Rattle.dq_vr.specs.Dictionary.{known_vr}
 use Rattle.dq_dataset.specs.Rules.{vr_of, padded_value, fits_enclosing}
-use Rattle.dq_dataset.specs.Reading.{may_nest, length_of, header_at, item_header_at, value_by, readers, reading}
+use Rattle.dq_dataset.specs.DataSetReader.{may_nest, length_of, header_at, item_header_at, value_by, readers, data_set_read}
 use Rattle.dq_dataset.specs.Grammar.{IsHeader, Spells, no_more, more, SpellsValue, plain, nested, SpellsItems, no_item, one_item, bound_of, HasExtent, without_group_length, IsSpelled}
 use Rattle.dq_dataset.specs.Faults.{ends_here, HasReach, HasFault, at_header, in_value, after_element, ItemsHaveFault, at_item, in_item, after_item, IsFaulty}
 use Rattle.dq_dataset.proofs.Fields.{IsBytes, IsBytes-drop, IsBytes-take, ok_is, err_is, no_fault, Takes, Takes-then}
@@ -229,7 +229,7 @@ one_of_both syntax octets ok =
 -- ---- what reading answers
 
 -- what is read is spelled
-pub reading_is_spelled : (syntax : Syntax) (octets : List ℕ) (d : ElementList) → IsBytes octets → reading syntax octets ≡ Ok d → IsSpelled syntax octets d
+pub reading_is_spelled : (syntax : Syntax) (octets : List ℕ) (d : ElementList) → IsBytes octets → data_set_read syntax octets ≡ Ok d → IsSpelled syntax octets d
 reading_is_spelled syntax octets d ok e =
     elim (one_of_both syntax octets ok) [
       | inl s ↦ subst (λ (x : ElementList). IsSpelled syntax octets x) (ok_is s.0 d (sym (spelled_is_read syntax octets s.0 s.1) ∙ e)) s.1
@@ -237,7 +237,7 @@ reading_is_spelled syntax octets d ok e =
     ]
 
 -- an error is the first fault
-pub read_is_faulty : (syntax : Syntax) (octets : List ℕ) (f : ReadFault) → IsBytes octets → reading syntax octets ≡ Err f → IsFaulty syntax octets f
+pub read_is_faulty : (syntax : Syntax) (octets : List ℕ) (f : ReadFault) → IsBytes octets → data_set_read syntax octets ≡ Err f → IsFaulty syntax octets f
 read_is_faulty syntax octets f ok e =
     elim (one_of_both syntax octets ok) [
       | inl s ↦ absurd (no_fault s.0 f (sym (spelled_is_read syntax octets s.0 s.1) ∙ e))

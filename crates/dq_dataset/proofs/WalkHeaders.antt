@@ -10,7 +10,7 @@ use Rattle.dq_dataset.specs.declared.sieve.walk.Cursor.TheVariants.{InItems, InE
 use Rattle.dq_dataset.specs.declared.sieve.walk.Walk.{Walk}
 use Rattle.dq_dataset.specs.declared.sieve.walk.WalkStep.TheVariants.{Failed}
 use Rattle.dq_dataset.specs.Rules.{fits_enclosing}
-use Rattle.dq_dataset.specs.Reading.{front_at, item_front_at, end_at, may_nest, length_of}
+use Rattle.dq_dataset.specs.DataSetReader.{front_at, item_front_at, end_at, may_nest, length_of}
 use Rattle.dq_dataset.specs.Grammar.{IsPlaced, IsHeader, IsItemHeader, no_more, no_item, IsEnd}
 use Rattle.dq_dataset.specs.Faults.{ends_here}
 use Rattle.dq_dataset.specs.Sifting.{bound_by, until_of, Finishes, IsSplitByReach, LeadsTo, WalkLeads, AreNested, HasCome, HasEnd, LeadsOn, opened_reach, opened_left, StaysWithin, HasNoRoom, place_of_value}

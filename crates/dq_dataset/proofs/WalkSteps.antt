@@ -11,7 +11,7 @@ use Rattle.dq_dataset.specs.declared.sieve.walk.Walk.{Walk}
 use Rattle.dq_dataset.specs.declared.sieve.walk.WalkStep.{WalkStep}
 use Rattle.dq_dataset.specs.declared.sieve.walk.WalkStep.TheVariants.{On, Over, Failed}
 use Rattle.dq_dataset.specs.Sifting.{reach_of, bound_by, until_of, Extends, LeadsTo, FaultLeads, places_of, WalkLeads, WalkedLeads, LiesIn, AreNested, IsPart, HasMore, IsWalk, HasCome, HasEnd, LeadsOn, IsSettling, is_reached, opened_reach, opened_left, place_of_value}
-use Rattle.dq_dataset.specs.Reading.{length_of}
+use Rattle.dq_dataset.specs.DataSetReader.{length_of}
 use Rattle.dq_dataset.proofs.Walks.{Around, finished, part_is_cut_off, closed, popped}
 use Rattle.dq_dataset.proofs.Walks.{passed as passed_over}
 use Rattle.dq_dataset.proofs.Nesting.{nested_behind, none_is_part, comes_within, endless_is_none}

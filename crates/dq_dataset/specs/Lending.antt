@@ -8,7 +8,7 @@ use Rattle.dq_dataset.specs.declared.header.Content.{Content}
 use Rattle.dq_dataset.specs.declared.header.Content.TheVariants.{Plain, Sequence}
 use Rattle.dq_dataset.specs.declared.header.Header.{Header}
 use Rattle.dq_dataset.specs.declared.data_set.Value.{Value}
-use Rattle.dq_dataset.specs.Reading.{◌>>=◌, length_of, header_at, value_by, readers}
+use Rattle.dq_dataset.specs.DataSetReader.{◌>>=◌, length_of, header_at, value_by, readers}
 
 -- An element as it is spelled: its tag, the VR that the data set has, the syntax in which its items
 -- are spelled, where it has items, and the octets of its value, without the end of an undefined

@@ -3,7 +3,7 @@ pub mod View
 pub mod Values
 pub mod Falls
 pub mod Rules
-pub mod Reading
+pub mod DataSetReader
 pub mod Canonical
 pub mod Lengths
 pub mod Parts

@@ -23,7 +23,7 @@ use Rattle.dq_dataset.specs.View.{as_elements, elements_of}
 use Rattle.dq_dataset.specs.Grammar.{Spells, IsSpelled}
 use Rattle.dq_dataset.specs.Faults.{HasFault}
 use Rattle.dq_dataset.specs.Editing.{is_listed}
-use Rattle.dq_dataset.specs.Reading.{front_at}
+use Rattle.dq_dataset.specs.DataSetReader.{front_at}
 use Rattle.dq_dataset.specs.Sifting.{FaultLeads, WalkLeads, WalkedLeads, IsWalk}
 use Rattle.dq_dataset.specs.Sieve.{has_other, kept_limit, is_over_limit, sifted_of, IsSifted}
 

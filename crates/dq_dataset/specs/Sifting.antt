@@ -19,7 +19,7 @@ use Rattle.dq_dataset.specs.declared.sieve.walk.WalkStep.TheVariants.{On, Over, 
 use Rattle.dq_dataset.specs.declared.sieve.walk.HeaderFound.{HeaderFound}
 use Rattle.dq_dataset.specs.declared.sieve.walk.HeaderFound.TheVariants.{Part, End, Whole, Bad}
 use Rattle.dq_dataset.specs.declared.header.Header.{Header}
-use Rattle.dq_dataset.specs.Reading.{front_at, item_front_at, end_at}
+use Rattle.dq_dataset.specs.DataSetReader.{front_at, item_front_at, end_at}
 use Rattle.dq_dataset.specs.Tree.{ElementList}
 use Rattle.dq_dataset.specs.Grammar.{Spells, SpellsItems}
 use Rattle.dq_dataset.specs.Faults.{HasFault, ItemsHaveFault}

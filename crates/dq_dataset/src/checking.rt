@@ -1,7 +1,7 @@
 //! Checking the octets of nested data sets, as reading does, with no memory.
 ghost use Rattle.std.specs.Prelude.{◌≡◌, ℕ, ◌<◌, ◌≤◌, true, None, length, IfOk, OnSome};
 ghost use Rattle.dq_vr.specs.declared.Vr.{Vr};
-ghost use Rattle.dq_dataset.specs.Reading.{Answers, readers, may_nest, length_of, fits_enclosing, value_by, element_by, content_by, item_by};
+ghost use Rattle.dq_dataset.specs.DataSetReader.{Answers, readers, may_nest, length_of, fits_enclosing, value_by, element_by, content_by, item_by};
 ghost use Rattle.dq_dataset.specs.Lending.{rest_of, front_header, item_of};
 
 use crate::fault::ReadFault;
@@ -12,7 +12,7 @@ use dq_vr::Tag;
 
 /// Returns the octets that follow the value.
 #[cycle(checking)]
-#[tactic(auto, unfolding(crate::specs::Reading::value_by))]
+#[tactic(auto, unfolding(crate::specs::DataSetReader::value_by))]
 pub fn value_end<'a>(levels: u8, content: Content, octets: &'a [u8]) -> Result<&'a [u8], ReadFault>
     requires nests { may_nest levels content ≡ true }
     requires whole { fits_enclosing (length_of content) octets.now ≡ true }
@@ -46,7 +46,7 @@ pub fn value_end<'a>(levels: u8, content: Content, octets: &'a [u8]) -> Result<&
 
 /// The header of the next element, and what is left after its value, or after the end.
 #[cycle(checking)]
-#[tactic(auto, unfolding(crate::specs::Reading::element_by))]
+#[tactic(auto, unfolding(crate::specs::DataSetReader::element_by))]
 fn element_end<'a>(
     level: Level,
     last: Option<Tag>,
@@ -87,7 +87,7 @@ fn elements_end<'a>(level: Level, octets: &'a [u8]) -> Result<&'a [u8], ReadFaul
 
 /// What is left after an item on the level, up to where the item's own length says.
 #[cycle(checking)]
-#[tactic(auto, unfolding(crate::specs::Reading::content_by))]
+#[tactic(auto, unfolding(crate::specs::DataSetReader::content_by))]
 fn content_end<'a>(
     level: Level,
     extent: Option<u32>,
@@ -115,7 +115,7 @@ fn content_end<'a>(
 
 /// Whether an item stands here, and what is left after it, or after the end.
 #[cycle(checking)]
-#[tactic(auto, unfolding(crate::specs::Reading::item_by))]
+#[tactic(auto, unfolding(crate::specs::DataSetReader::item_by))]
 fn item_end<'a>(level: Level, octets: &'a [u8]) -> Result<(Option<()>, &'a [u8]), ReadFault>
     ensures value { (n : ℕ) → length octets.now ≤ n
         → Answers (λ x. (x.0, x.1.now)) result

@@ -3,7 +3,7 @@ ghost use Rattle.std.specs.Prelude.{◌≡◌, true, ◌+◌, ◌≤◌, length,
 ghost use Rattle.std.specs.Int.{w16, w32};
 ghost use Rattle.std.specs.Option.{option_copied};
 ghost use Rattle.dq_dataset.specs.Rules.{is_sequence, is_unknown, agrees, content_of, vr_of};
-ghost use Rattle.dq_dataset.specs.Reading.{Answers, tag_at, number_at, long_length_at, length_at, vr_at, spelling_at, front_at, header_at, item_front_at, item_header_at, end_at, follows, may_nest, length_of, fits_enclosing};
+ghost use Rattle.dq_dataset.specs.DataSetReader.{Answers, tag_at, number_at, long_length_at, length_at, vr_at, spelling_at, front_at, header_at, item_front_at, item_header_at, end_at, follows, may_nest, length_of, fits_enclosing};
 
 use crate::fault::ReadFault;
 use dq_vr::{LengthForm, Tag, Vr, length_form, lookup};
@@ -140,7 +140,7 @@ fn u32_at(octets: &[u8]) -> Result<(u32, &[u8]), ReadFault>
 }
 
 /// The tag of a header, of which at least 8 octets are there.
-#[tactic(auto, unfolding(crate::specs::Reading::tag_at))]
+#[tactic(auto, unfolding(crate::specs::DataSetReader::tag_at))]
 fn tag_at(octets: &[u8]) -> Result<(Tag, &[u8]), ReadFault>
     ensures value { Answers (λ x. (x.0, x.1.now)) result (tag_at octets.now) }
     ensures shorter { IfOk result (λ x. length x.1.now + 4 ≤ length octets.now) }
@@ -154,7 +154,7 @@ fn tag_at(octets: &[u8]) -> Result<(Tag, &[u8]), ReadFault>
 }
 
 /// A length of 4 octets, None where it is undefined.
-#[tactic(auto, unfolding(crate::specs::Reading::long_length_at))]
+#[tactic(auto, unfolding(crate::specs::DataSetReader::long_length_at))]
 fn long_length_at(octets: &[u8]) -> Result<(Option<u32>, &[u8]), ReadFault>
     ensures value { Answers (λ x. (x.0, x.1.now)) result (long_length_at octets.now) }
     ensures shorter { IfOk result (λ x. length x.1.now + 4 ≤ length octets.now) }
@@ -169,7 +169,7 @@ fn long_length_at(octets: &[u8]) -> Result<(Option<u32>, &[u8]), ReadFault>
 }
 
 /// The length after the letters of a VR.
-#[tactic(auto, unfolding(crate::specs::Reading::length_at))]
+#[tactic(auto, unfolding(crate::specs::DataSetReader::length_at))]
 fn length_at(form: LengthForm, octets: &[u8]) -> Result<(Option<u32>, &[u8]), ReadFault>
     ensures value { Answers (λ x. (x.0, x.1.now)) result (length_at form octets.now) }
     ensures shorter { IfOk result (λ x. length x.1.now + 2 ≤ length octets.now) }
@@ -181,7 +181,7 @@ fn length_at(form: LengthForm, octets: &[u8]) -> Result<(Option<u32>, &[u8]), Re
     }
 }
 
-#[tactic(auto, unfolding(crate::specs::Reading::vr_at, crate::specs::Reading::vr_or_fault))]
+#[tactic(auto, unfolding(crate::specs::DataSetReader::vr_at, crate::specs::DataSetReader::vr_or_fault))]
 fn vr_at(octets: &[u8]) -> Result<(Vr, &[u8]), ReadFault>
     ensures value { Answers (λ x. (x.0, x.1.now)) result (vr_at octets.now) }
     ensures shorter { IfOk result (λ x. length x.1.now + 2 ≤ length octets.now) }
@@ -198,7 +198,7 @@ fn vr_at(octets: &[u8]) -> Result<(Vr, &[u8]), ReadFault>
 type Spelling = (Option<Vr>, Option<u32>);
 
 /// The spelled VR, where there is one, and the length.
-#[tactic(auto, unfolding(crate::specs::Reading::spelling_at))]
+#[tactic(auto, unfolding(crate::specs::DataSetReader::spelling_at))]
 fn spelling_at(
     syntax: Syntax,
     known: Option<Vr>,
@@ -262,7 +262,7 @@ fn fits(length: Option<u32>, octets: &[u8]) -> bool
 
 /// The header of an element after the tag `last`, with so many more levels of sequences allowed,
 /// whether or not its value is there.
-#[tactic(auto, unfolding(crate::specs::Reading::front_at))]
+#[tactic(auto, unfolding(crate::specs::DataSetReader::front_at))]
 pub fn front_at(
     syntax: Syntax,
     levels: u8,
@@ -291,7 +291,7 @@ pub fn front_at(
 }
 
 /// The header of an element after the tag `last`, with so many more levels of sequences allowed.
-#[tactic(auto, unfolding(crate::specs::Reading::header_at))]
+#[tactic(auto, unfolding(crate::specs::DataSetReader::header_at))]
 pub fn header_at(
     syntax: Syntax,
     levels: u8,
@@ -311,7 +311,7 @@ pub fn header_at(
 }
 
 /// The header of an item, and its length, whether or not the item is there.
-#[tactic(auto, unfolding(crate::specs::Reading::item_front_at))]
+#[tactic(auto, unfolding(crate::specs::DataSetReader::item_front_at))]
 pub fn item_front_at(octets: &[u8]) -> Result<(Option<u32>, &[u8]), ReadFault>
     ensures value { Answers (λ x. (x.0, x.1.now)) result (item_front_at octets.now) }
     ensures shorter { IfOk result (λ x. length x.1.now + 8 ≤ length octets.now) }
@@ -324,7 +324,7 @@ pub fn item_front_at(octets: &[u8]) -> Result<(Option<u32>, &[u8]), ReadFault>
 }
 
 /// The header of an item, and its length.
-#[tactic(auto, unfolding(crate::specs::Reading::item_header_at))]
+#[tactic(auto, unfolding(crate::specs::DataSetReader::item_header_at))]
 pub fn item_header_at(octets: &[u8]) -> Result<(Option<u32>, &[u8]), ReadFault>
     ensures value { Answers (λ x. (x.0, x.1.now)) result (item_header_at octets.now) }
     ensures shorter { IfOk result (λ x. length x.1.now + 8 ≤ length octets.now) }
@@ -338,7 +338,7 @@ pub fn item_header_at(octets: &[u8]) -> Result<(Option<u32>, &[u8]), ReadFault>
 }
 
 /// What is left after the end that stands here.
-#[tactic(auto, unfolding(crate::specs::Reading::end_at))]
+#[tactic(auto, unfolding(crate::specs::DataSetReader::end_at))]
 pub fn end_at(bound: Bound, end: u16, octets: &[u8]) -> Result<Option<&[u8]>, ReadFault>
     ensures value { Answers option_copied result (end_at bound end octets.now) }
     ensures shorter { IfOk result (λ x. IfSome x (λ rest. length rest.now ≤ length octets.now)) }

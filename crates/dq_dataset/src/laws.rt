@@ -5,7 +5,7 @@ ghost use Rattle.dq_dataset.specs.declared.fault.ReadFault.{ReadFault};
 ghost use Rattle.dq_dataset.specs.declared.fault.ReadFault.TheVariants.{Truncated};
 ghost use Rattle.dq_dataset.specs.declared.header.Syntax.{Syntax};
 ghost use Rattle.dq_dataset.specs.Tree.{ElementList};
-ghost use Rattle.dq_dataset.specs.Reading.{reading};
+ghost use Rattle.dq_dataset.specs.DataSetReader.{data_set_read};
 ghost use Rattle.dq_dataset.specs.Grammar.{IsSpelled};
 ghost use Rattle.dq_dataset.specs.Facts.{IsDataSet};
 ghost use Rattle.dq_dataset.specs.Faults.{IsFaulty};
@@ -30,10 +30,10 @@ pub fn spelling_law()
         → IsSpelled syntax octets d → IsDataSet d }
     // What is spelled is read, so octets with a fault spell nothing.
     ensures read { (syntax : Syntax) (octets : List ℕ) (d : ElementList) → IsSpelled syntax octets d
-        → reading syntax octets ≡ Ok d }
+        → data_set_read syntax octets ≡ Ok d }
     // What is read is spelled.
     ensures spelled { (syntax : Syntax) (octets : List ℕ) (d : ElementList) → AreOctets octets
-        → reading syntax octets ≡ Ok d → IsSpelled syntax octets d }
+        → data_set_read syntax octets ≡ Ok d → IsSpelled syntax octets d }
     // What fewer than 2^31 octets spell has a canonical spelling, in both syntaxes.
     ensures lengths { (from to : Syntax) (octets : List ℕ) (d : ElementList)
         → IsSpelled from octets d → length octets < 2 ^ 31 → HasLengths to d }
@@ -45,7 +45,7 @@ pub fn written_law()
     ensures spelled { (syntax : Syntax) (d : ElementList) → IsDataSet d → HasLengths syntax d
         → IsReadBack syntax d → IsSpelled syntax (canonical syntax d) d }
     ensures read_back { (syntax : Syntax) (d : ElementList) → IsDataSet d → HasLengths syntax d
-        → IsReadBack syntax d → reading syntax (canonical syntax d) ≡ Ok d }
+        → IsReadBack syntax d → data_set_read syntax (canonical syntax d) ≡ Ok d }
 {
     Vr::letters_law();
 }
@@ -64,16 +64,16 @@ pub fn fault_law()
         → IsFaulty syntax octets g → f ≡ g }
     // Reading answers it.
     ensures read { (syntax : Syntax) (octets : List ℕ) (fault : ReadFault)
-        → IsFaulty syntax octets fault → reading syntax octets ≡ Err fault }
+        → IsFaulty syntax octets fault → data_set_read syntax octets ≡ Err fault }
     ensures faulty { (syntax : Syntax) (octets : List ℕ) (fault : ReadFault) → AreOctets octets
-        → reading syntax octets ≡ Err fault → IsFaulty syntax octets fault }
+        → data_set_read syntax octets ≡ Err fault → IsFaulty syntax octets fault }
     // It stays.
     ensures stays_faulty { (syntax : Syntax) (octets more : List ℕ) (fault : ReadFault)
         → AreOctets (octets ++ more) → fault ≢ Truncated
         → IsFaulty syntax octets fault → IsFaulty syntax (octets ++ more) fault }
     ensures stays { (syntax : Syntax) (octets more : List ℕ) (fault : ReadFault) → AreOctets octets
         → fault ≢ Truncated
-        → reading syntax octets ≡ Err fault → reading syntax (octets ++ more) ≡ Err fault }
+        → data_set_read syntax octets ≡ Err fault → data_set_read syntax (octets ++ more) ≡ Err fault }
 {}
 
 /// The elements that are lent of one level are those that its octets spell. The first fault

@@ -1,13 +1,13 @@
 //! The elements of one level, lent from the octets that spell them (PS3.5 section 7.1).
 ghost use Rattle.std.specs.Prelude.{◌≡◌, ◌<◌, length, IfOk};
-ghost use Rattle.dq_dataset.specs.Reading.{Answers};
+ghost use Rattle.dq_dataset.specs.DataSetReader.{Answers};
 ghost use Rattle.dq_dataset.specs.Agreement.{AgreesWith};
 ghost use Rattle.dq_dataset.specs.Lending.{next_at, inner_syntax, lent_elements};
 
 use crate::checking::value_end;
+use crate::data_set_reader::DEPTH;
 use crate::fault::ReadFault;
 use crate::header::{Content, Header, Syntax, header_at, length_of};
-use crate::reading::DEPTH;
 use dq_vr::{Tag, Vr};
 use std::marker::Model;
 

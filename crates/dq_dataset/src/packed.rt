@@ -4,11 +4,11 @@ ghost use Rattle.dq_dataset.specs.Canonical.{canonical};
 ghost use Rattle.dq_dataset.specs.declared.header.Syntax.TheVariants.{Explicit};
 
 use crate::data_set::DataSet;
+use crate::data_set_reader::read;
 use crate::fault::ReadFault;
 use crate::header::Syntax;
 use crate::laws::written_law;
 use crate::measuring::can_be_written;
-use crate::reading::read;
 use crate::writing::write;
 use dq_list::Listed;
 use std::alloc::{AllocError, Global};

@@ -7,7 +7,7 @@ ghost use Rattle.dq_dataset.specs.declared.sieve.SieveState.TheVariants.{Spent};
 ghost use Rattle.dq_dataset.specs.declared.sieve.Sifted.{Sifted};
 ghost use Rattle.dq_dataset.specs.declared.sieve.Sifted.TheVariants.{Fault};
 ghost use Rattle.dq_dataset.specs.declared.sieve.Outer.{Outer};
-ghost use Rattle.dq_dataset.specs.Reading.{may_nest};
+ghost use Rattle.dq_dataset.specs.DataSetReader.{may_nest};
 ghost use Rattle.dq_dataset.specs.Grammar.{IsPlaced, IsHeader};
 ghost use Rattle.dq_dataset.specs.Sifting.{IsWalked};
 ghost use Rattle.dq_dataset.specs.View.{as_elements, elements_of};
@@ -17,10 +17,10 @@ ghost use Rattle.dq_dataset.specs.Sieving.{SieveGoesOn, SieveAfter, IsStage, Pas
 mod walk;
 
 use crate::data_set::{DataSet, Element};
+use crate::data_set_reader::{DEPTH, read};
 use crate::fault::ReadFault;
 use crate::header::{Bound, Content, Header, Syntax};
 use crate::measuring::elements_length;
-use crate::reading::{DEPTH, read};
 use dq_vr::Tag;
 use std::alloc::{AllocError, Global};
 use std::marker::Model;

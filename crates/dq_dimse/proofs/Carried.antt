@@ -11,7 +11,7 @@ use Rattle.dq_pdu.specs.declared.pdu.Pdu.{Pdu}
 use Rattle.dq_pdu.specs.declared.pdu.Pdv.{Pdv}
 use Rattle.dq_pdu.specs.Octets.{is_number_among}
 use Rattle.dq_pdu.specs.Numbers.{pdv_header, longest_body}
-use Rattle.dq_pdu.specs.Writing.{spelling, p_data, IsWritable, AreWritable}
+use Rattle.dq_pdu.specs.Writing.{pdu_octets, p_data, IsWritable, AreWritable}
 use Rattle.dq_pdu.specs.Stream.{pdus_in}
 use Rattle.dq_dimse.specs.declared.command.Command.{Command}
 use Rattle.dq_dimse.specs.Received.{Message}
@@ -88,7 +88,7 @@ FragmentsAreWritable =
     (context : ℕ) (command last : Bool) (octets : List ℕ) → length octets + pdv_header ≤ longest_body → IsWritable (p_data context command last octets)
 
 abbrev pub WrittenIsRead : Type 0
-WrittenIsRead = (pdus : List Pdu) → AreWritable pdus → pdus_in (flat_map spelling pdus) ≡ record { list = pdus; rest = []; fault = None }
+WrittenIsRead = (pdus : List Pdu) → AreWritable pdus → pdus_in (flat_map pdu_octets pdus) ≡ record { list = pdus; rest = []; fault = None }
 
 pdus_writable : FragmentsAreWritable → (context : ℕ) (command : Bool) (size : ℕ) (run : List (List ℕ)) → size ≤ 16378 → AreSized size run
     → AreWritable (pdus_of context command run)
@@ -110,7 +110,7 @@ some_room limit h = grind (arith, nat_tests)
 -- octets cut into PDUs, as the PDVs in them
 record IsCut (context : ℕ) (command : Bool) (octets written : List ℕ) : Type 0 where
   pub pdvs : List Pdv
-  pub written_is : written ≡ flat_map spelling (map pdu_with pdvs)
+  pub written_is : written ≡ flat_map pdu_octets (map pdu_with pdvs)
   pub writable : AreWritable (map pdu_with pdvs)
   pub fragments : AreAllFragments context command pdvs
   pub octets_are : fragment_octets pdvs ≡ octets
@@ -125,7 +125,7 @@ is_cut w context command limit octets h =
     let same = pdus_of-map context command run in
     record {
       pdvs = pdvs_of context command run;
-      written_is = ap (flat_map spelling) same;
+      written_is = ap (flat_map pdu_octets) same;
       writable = subst AreWritable same (pdus_writable w context command size run (omega arith) sized);
       fragments = pdvs_of-fragments context command size run sized;
       octets_are = pdvs_of-joined context command run ∙ fragments_join (length octets) size octets;
@@ -134,7 +134,7 @@ is_cut w context command limit octets h =
 -- the PDUs of a command set, and after them those of a data set
 record IsSent (context : ℕ) (set : List ℕ) (octets : Option (List ℕ)) (written : List ℕ) : Type 0 where
   pub pdvs : List Pdv
-  pub written_is : written ≡ flat_map spelling (map pdu_with pdvs)
+  pub written_is : written ≡ flat_map pdu_octets (map pdu_with pdvs)
   pub writable : AreWritable (map pdu_with pdvs)
   pub carries : Carries context set octets pdvs
 
@@ -163,9 +163,9 @@ is_sent w context limit command (Some octets) h =
       pdvs = set.pdvs ++ part.pdvs;
       written_is =
           ap (λ (xs : List ℕ). xs ++ cut_into_pdus context false limit octets) set.written_is
-          ∙ ap (λ (xs : List ℕ). flat_map spelling (map pdu_with set.pdvs) ++ xs) part.written_is
-          ∙ sym (flat_map-append spelling (map pdu_with set.pdvs) (map pdu_with part.pdvs))
-          ∙ ap (flat_map spelling) (sym (map-append pdu_with set.pdvs part.pdvs));
+          ∙ ap (λ (xs : List ℕ). flat_map pdu_octets (map pdu_with set.pdvs) ++ xs) part.written_is
+          ∙ sym (flat_map-append pdu_octets (map pdu_with set.pdvs) (map pdu_with part.pdvs))
+          ∙ ap (flat_map pdu_octets) (sym (map-append pdu_with set.pdvs part.pdvs));
       writable = subst AreWritable (sym (map-append pdu_with set.pdvs part.pdvs))
           (both_writable (map pdu_with set.pdvs) (map pdu_with part.pdvs) set.writable part.writable);
       carries = record {

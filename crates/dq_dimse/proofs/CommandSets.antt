@@ -9,7 +9,7 @@ use Rattle.dq_dataset.specs.declared.header.Syntax.{Syntax}
 use Rattle.dq_dataset.specs.declared.header.Syntax.TheVariants.{Implicit}
 use Rattle.dq_dataset.specs.Tree.{ElementList}
 use Rattle.dq_dataset.specs.View.{elements_of}
-use Rattle.dq_dataset.specs.Reading.{reading}
+use Rattle.dq_dataset.specs.DataSetReader.{data_set_read}
 use Rattle.dq_dataset.specs.Grammar.{IsSpelled}
 use Rattle.dq_list.specs.Readers.{◌>>=◌, only_if}
 use Rattle.dq_list.proofs.Readers.{bind_some, provided_some}
@@ -52,21 +52,21 @@ command_said set command h = grind (arith, lt-ltb)
 
 -- what is read is spelled, and what is spelled is read
 abbrev pub ReadIsSpelled : Type 0
-ReadIsSpelled = (syntax : Syntax) (octets : List ℕ) (d : ElementList) → AreOctets octets → reading syntax octets ≡ Ok d → IsSpelled syntax octets d
+ReadIsSpelled = (syntax : Syntax) (octets : List ℕ) (d : ElementList) → AreOctets octets → data_set_read syntax octets ≡ Ok d → IsSpelled syntax octets d
 
 abbrev pub SpelledIsRead : Type 0
-SpelledIsRead = (syntax : Syntax) (octets : List ℕ) (d : ElementList) → IsSpelled syntax octets d → reading syntax octets ≡ Ok d
+SpelledIsRead = (syntax : Syntax) (octets : List ℕ) (d : ElementList) → IsSpelled syntax octets d → data_set_read syntax octets ≡ Ok d
 
 pub is_command_set : ReadIsSpelled → (octets : List ℕ) (command : Command) → AreOctets octets → command_of octets ≡ Some command → IsCommandSet octets command
 unfolding command_of
 is_command_set spelled octets command bytes e =
-    let first = bind_some (read_set (reading Implicit octets)) (λ set. only_if (list_all belongs (elements_of set)) set >>= command_from) command e in
+    let first = bind_some (read_set (data_set_read Implicit octets)) (λ set. only_if (list_all belongs (elements_of set)) set >>= command_from) command e in
     let set = first.0 in
     let second = bind_some (only_if (list_all belongs (elements_of set)) set) command_from command first.2 in
     let test = provided_some (list_all belongs (elements_of set)) set second.0 second.1 in
     record {
       set = set;
-      spells = record { spelled = spelled Implicit octets set bytes (set_read (reading Implicit octets) set first.1); own = test.0 };
+      spells = record { spelled = spelled Implicit octets set bytes (set_read (data_set_read Implicit octets) set first.1); own = test.0 };
       says = says_command set command (ap command_from test.1 ∙ second.2);
     }
 

@@ -5,12 +5,12 @@ use Rattle.std.specs.List.{flat_map}
 use Rattle.std.proofs.lemmas.Bool.{le-leb, lt-leb}
 use Rattle.std.proofs.lemmas.Bool.Decides.{nat_tests}
 use Rattle.std.proofs.lemmas.List.{append-nil}
-use Rattle.dq_pdu.specs.Writing.{body, spelling, is_writable, p_data}
+use Rattle.dq_pdu.specs.Writing.{body, pdu_octets, is_writable, p_data}
 use Rattle.dq_dimse.specs.Sending.{IsPduLimit, pdu_limit, fragment_size, fragments_within, pdus_of}
 use Rattle.dq_dimse.proofs.Fragments.{one_fragment}
 
 abbrev pub pdus_within : ℕ → Bool → ℕ → ℕ → List ℕ → List ℕ
-pdus_within context command fuel size octets = flat_map spelling (pdus_of context command (fragments_within fuel size octets))
+pdus_within context command fuel size octets = flat_map pdu_octets (pdus_of context command (fragments_within fuel size octets))
 
 pdu_length : (context : ℕ) (command last : Bool) (octets : List ℕ) → length (body (p_data context command last octets)) ≡ length octets + 6
 pdu_length context command last octets = grind (arith, nat_tests, append-nil)
@@ -52,20 +52,20 @@ pdus_of-cons context command f (suc fuel) size octets =
 
 one_more : (context : ℕ) (command : Bool) (size : ℕ) (written rest total : List ℕ) (fuel : ℕ) → 0 < size → size < length rest → length rest ≤ fuel
     → written ++ pdus_within context command fuel size rest ≡ total
-    → Cuts context command size (written ++ spelling (p_data context command false (take size rest))) (drop size rest) total
+    → Cuts context command size (written ++ pdu_octets (p_data context command false (take size rest))) (drop size rest) total
 one_more context command size written rest total zero some long enough w = absurd (omega arith)
 one_more context command size written rest total (suc fuel) some long enough w =
     let no : leb (length rest) size ≡ false = lt-leb (length rest) size long in
-    let step : pdus_within context command (suc fuel) size rest ≡ spelling
+    let step : pdus_within context command (suc fuel) size rest ≡ pdu_octets
     (p_data context command false (take size rest)) ++ pdus_within context command fuel size (drop size rest) =
     rw (no, pdus_of-cons context command (take size rest) fuel size (drop size rest)) refl in
     record { fuel = fuel; enough = omega (arith, length-drop size rest); whole = append_assoc written _ _ ∙ ap (λ (xs : List ℕ). written ++ xs) (sym step) ∙ w }
 
 pub goes_on : (context : ℕ) (command : Bool) (size : ℕ) (written rest total : List ℕ) → 0 < size → size < length rest
     → Cuts context command size written rest total
-    → Cuts context command size (written ++ spelling (p_data context command false (take size rest))) (drop size rest) total
+    → Cuts context command size (written ++ pdu_octets (p_data context command false (take size rest))) (drop size rest) total
 goes_on context command size written rest total some long c = one_more context command size written rest total c.fuel some long c.enough c.whole
 
 pub ends : (context : ℕ) (command : Bool) (size : ℕ) (written rest total : List ℕ) → length rest ≤ size → Cuts context command size written rest total
-    → written ++ spelling (p_data context command true rest) ≡ total
+    → written ++ pdu_octets (p_data context command true rest) ≡ total
 ends context command size written rest total le c = grind (arith, nat_tests, one_fragment, append-nil)

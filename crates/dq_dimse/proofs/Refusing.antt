@@ -2,7 +2,7 @@
 use Rattle.std.proofs.Common.{◌≡◌, ◌≢◌, ℕ, Bool, true, false, Option, Some, None, Err, arith, if◌then◌else◌}
 use Rattle.std.specs.Result.{result_ok}
 use Rattle.dq_dataset.specs.declared.header.Syntax.{Syntax}
-use Rattle.dq_dataset.specs.Reading.{reading}
+use Rattle.dq_dataset.specs.DataSetReader.{data_set_read}
 use Rattle.dq_dataset.specs.Tree.{ElementList}
 use Rattle.dq_dimse.specs.Receiving.{is_over, other_limit, unless_unread, identifier_in}
 use Rattle.dq_dimse.specs.Statuses.{success, out_of_resources, cannot_understand}
@@ -17,4 +17,4 @@ refused_by false (Some identifier) status e is = absurd (cc)
 pub identifier_refused : (message : Message) (syntax : Syntax) (status : ℕ) → identifier_in message syntax ≡ Err status → status ≢ success
 unfolding identifier_in
 identifier_refused message syntax status e =
-    refused_by (is_over other_limit message) (result_ok (reading syntax message.octets)) status e
+    refused_by (is_over other_limit message) (result_ok (data_set_read syntax message.octets)) status e

@@ -21,7 +21,7 @@ use Rattle.dq_dataset.specs.Tree as tree
 use Rattle.dq_dataset.specs.View.{elements_of}
 use Rattle.dq_dataset.specs.Rules.{content_of, vr_of}
 use Rattle.dq_dataset.specs.Rules as rules_of
-use Rattle.dq_dataset.specs.Reading.{follows}
+use Rattle.dq_dataset.specs.DataSetReader.{follows}
 use Rattle.dq_dataset.specs.Grammar.{IsHeader, Spells, no_more, more, SpellsValue, plain, without_group_length}
 use Rattle.dq_dimse.specs.declared.command.Command.{Command}
 use Rattle.dq_dimse.specs.Commands.{belongs, command_tag, identifier_of}

@@ -14,7 +14,7 @@ use Rattle.dq_dataset.specs.declared.data_set.Value.{Value}
 use Rattle.dq_dataset.specs.declared.data_set.Value.TheVariants.{Octets, Items}
 use Rattle.dq_dataset.specs.Tree.{ElementList}
 use Rattle.dq_dataset.specs.View.{elements_of, has_tag}
-use Rattle.dq_dataset.specs.Reading.{reading}
+use Rattle.dq_dataset.specs.DataSetReader.{data_set_read}
 use Rattle.dq_list.specs.Readers.{◌>>=◌, only_if}
 use Rattle.dq_dimse.specs.declared.command.Command.{Command}
 use Rattle.dq_dimse.specs.CommandElements.{command_group, command_field, command_data_set_type}
@@ -85,6 +85,6 @@ read_set (Err fault) = None
 -- the command that a command set spells
 unfoldable pub command_of : List ℕ → Option Command
 command_of octets = do
-  set ← read_set (reading Implicit octets)
+  set ← read_set (data_set_read Implicit octets)
   own ← only_if (list_all belongs (elements_of set)) set
   command_from own

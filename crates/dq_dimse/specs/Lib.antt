@@ -10,7 +10,7 @@ pub mod CommandRefs
 pub mod Limits
 pub mod Messages
 pub mod Received
-pub mod Reading
+pub mod CommandReader
 pub mod Receiving
 pub mod Sending
 pub mod Statuses

@@ -2,7 +2,7 @@
 use Rattle.std.specs.Prelude.{ℕ, Bool, ◌||◌, nat_lt, length, Option, Some, None, Result, Ok, Err, if◌then◌else◌}
 use Rattle.std.specs.Result.{result_ok}
 use Rattle.dq_dataset.specs.declared.header.Syntax.{Syntax}
-use Rattle.dq_dataset.specs.Reading.{reading}
+use Rattle.dq_dataset.specs.DataSetReader.{data_set_read}
 use Rattle.dq_dataset.specs.Tree.{ElementList}
 pub use Rattle.dq_dimse.specs.Limits.{other_limit}
 use Rattle.dq_dimse.specs.Received.{Message}
@@ -21,4 +21,4 @@ unless_unread (Some identifier) = Ok identifier
 unfoldable pub identifier_in : Message → Syntax → Result ElementList ℕ
 identifier_in message syntax =
     if is_over other_limit message then Err out_of_resources
-    else unless_unread (result_ok (reading syntax message.octets))
+    else unless_unread (result_ok (data_set_read syntax message.octets))

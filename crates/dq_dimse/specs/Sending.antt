@@ -6,7 +6,7 @@ use Rattle.std.specs.List.{flat_map}
 use Rattle.std.specs.Int.{w16, w32, to_le_bytes}
 use Rattle.dq_pdu.specs.declared.pdu.Pdu.{Pdu}
 use Rattle.dq_pdu.specs.Numbers.{pdv_header}
-use Rattle.dq_pdu.specs.Writing.{spelling, p_data}
+use Rattle.dq_pdu.specs.Writing.{pdu_octets, p_data}
 use Rattle.dq_dimse.specs.declared.command.Command.{Command}
 pub use Rattle.dq_dimse.specs.Limits.{own_limit, least_limit}
 use Rattle.dq_dimse.specs.CommandElements.{command_field, command_data_set_type, status_element}
@@ -100,7 +100,7 @@ pdus_of context command (octets ∷ next ∷ others) =
 -- octets cut into PDUs of fragments of a size
 abbrev pub cut_within : ℕ → Bool → ℕ → List ℕ → List ℕ
 cut_within context command size octets =
-    flat_map spelling (pdus_of context command (fragments size octets))
+    flat_map pdu_octets (pdus_of context command (fragments size octets))
 
 -- octets cut into PDUs
 abbrev pub cut_into_pdus : ℕ → Bool → ℕ → List ℕ → List ℕ

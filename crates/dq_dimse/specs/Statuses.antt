@@ -7,8 +7,8 @@ abbrev pub success : ℕ
 success = 0x0000
 
 -- Pending: matches go on (PS3.4 sections C.4.1.1.4 and K.4.1.1.4)
-abbrev pub pending : ℕ
-pending = 0xFF00
+abbrev pub pending_with_optional_keys : ℕ
+pending_with_optional_keys = 0xFF00
 
 -- Pending: matches go on, and optional keys were not supported (PS3.4 sections C.4.1.1.4 and
 -- K.4.1.1.4)

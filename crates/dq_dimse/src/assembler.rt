@@ -15,7 +15,7 @@ ghost use Rattle.dq_dimse.specs.Messages.{data_limit};
 
 use crate::command::{Body, Command, Message};
 use crate::fault::DimseFault;
-use crate::{command_field, reading};
+use crate::{command_field, command_reader};
 use dq_dataset::{Sieve, Syntax};
 use dq_list::Listed;
 use dq_pdu::Pdv;
@@ -243,7 +243,7 @@ fn command_completed(
         MakesGathering accepted result (command_completed context.id (command_of octets.now)) }
     ensures unspent { IfOk result (λ x. fault_held x.1 ≡ None) }
 {
-    let begun = PendingMessage::new(alloc, context, reading::command_of(alloc, octets)?);
+    let begun = PendingMessage::new(alloc, context, command_reader::command_of(alloc, octets)?);
     if begun.command.with_data {
         Ok((None, PartialMessage::DataPart(begun)))
     } else {

@@ -1,7 +1,7 @@
 //! Why presentation data values are no messages.
 ghost use Rattle.std.specs.Prelude.{◌≡◌};
 ghost use Rattle.dq_dimse.specs.declared.fault.DimseFault.TheVariants.{NoMemory};
-ghost use Rattle.dq_dimse.specs.Reading.{dimse_fault};
+ghost use Rattle.dq_dimse.specs.CommandReader.{dimse_fault};
 
 use dq_dataset::ReadFault;
 use std::alloc::AllocError;

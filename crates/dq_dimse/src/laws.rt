@@ -39,7 +39,7 @@ use dq_pdu::laws::{fragments_are_writable, written_pdus_are_read};
 /// definitions, which have them as numbers.
 pub fn code_has_the_numbers()
     ensures statuses { (coded_status.SUCCESS ≡ status.success)
-        × (coded_status.PENDING ≡ status.pending)
+        × (coded_status.PENDING ≡ status.pending_with_optional_keys)
         × (coded_status.PENDING_WITHOUT_OPTIONAL_KEYS ≡ status.pending_without_optional_keys)
         × (coded_status.CANCEL ≡ status.cancel)
         × (coded_status.OUT_OF_RESOURCES ≡ status.out_of_resources)

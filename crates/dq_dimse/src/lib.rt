@@ -6,10 +6,10 @@
 mod assembler;
 mod command;
 pub mod command_field;
+mod command_reader;
 mod fault;
 pub mod laws;
 mod numbers;
-mod reading;
 mod receiving;
 mod sending;
 pub mod status;

@@ -2,7 +2,7 @@
 ghost use Rattle.std.specs.Prelude.{◌≡◌, ◌<◌, ◌^◌, IfOk, IfSome, length};
 ghost use Rattle.std.specs.Result.{result_ok};
 ghost use Rattle.dq_dataset.specs.declared.header.Syntax.TheVariants.{Explicit};
-ghost use Rattle.dq_dataset.specs.Reading.{reading};
+ghost use Rattle.dq_dataset.specs.DataSetReader.{data_set_read};
 ghost use Rattle.dq_dataset.specs.Canonical.{HasLengths};
 ghost use Rattle.dq_dimse.specs.Holding.{plain_message};
 ghost use Rattle.dq_dimse.specs.Receiving.{is_over, identifier_in};
@@ -27,7 +27,7 @@ impl Message {
     /// fewer than 2^31 octets can be written in Explicit.
     pub fn data_set(&self, alloc: Global, syntax: Syntax) -> Result<Option<DataSet>, AllocError>
         ensures read { IfOk result (λ data_set.
-            data_set ≡ result_ok (reading syntax (plain_message self.now).octets)) }
+            data_set ≡ result_ok (data_set_read syntax (plain_message self.now).octets)) }
         ensures lengths { length (plain_message self.now).octets < 2 ^ 31
             → IfOk result (λ data_set. IfSome data_set (λ d. HasLengths Explicit d)) }
     {

@@ -10,7 +10,7 @@ use Rattle.dq_dataset.specs.declared.fault.ReadFault.{ReadFault}
 use Rattle.dq_dataset.specs.declared.header.Syntax.{Syntax}
 use Rattle.dq_dataset.specs.Tree.{ElementList, no_elements, element, sequence}
 use Rattle.dq_dataset.specs.View.{elements_of, list_of}
-use Rattle.dq_dataset.specs.Reading.{reading}
+use Rattle.dq_dataset.specs.DataSetReader.{data_set_read}
 use Rattle.dq_dataset.proofs.KnownVrs.{HasKnownVr, read_has_known_vrs}
 use Rattle.dq_dimse.specs.Receiving.{unless_unread, identifier_in}
 use Rattle.dq_dimse.specs.Statuses.{success, out_of_resources, does_not_match_sop_class}
@@ -25,16 +25,16 @@ use Rattle.dq_tables.specs.Rows.{Record, of}
 use Rattle.dq_tables.specs.Records.{data_set_of}
 use Rattle.dq_tables.specs.Sound.{IsSound}
 use Rattle.dq_tables.specs.declared.row.Row.{Row}
-use Rattle.dq_tables.proofs.Rising.{one_list}
-use Rattle.dq_tables.proofs.Listing.{in_order_filter}
+use Rattle.dq_tables.proofs.RisingLists.{one_list}
+use Rattle.dq_tables.proofs.RecordLists.{in_order_filter}
 use Rattle.dq_find.specs.declared.level.Level.{Level}
 use Rattle.dq_find.specs.declared.query.Query.{Query}
 use Rattle.dq_find.specs.Levels.{level_of, has_keys_above}
-use Rattle.dq_find.specs.Computed.{with_computed}
+use Rattle.dq_find.specs.ComputedKeys.{with_computed}
 use Rattle.dq_find.specs.Queries.{level_query, identifier_query, message_query, answer_elements, answers_of_records, asked_records, query_outcome}
 use Rattle.dq_find.specs.Answers.{MatchesQuery, HasKeyAbove, told_of, AreQueryAnswers}
-use Rattle.dq_find.proofs.Answered.{answered_query, asked_from, asked_to, asked_in_order}
-use Rattle.dq_find.proofs.Asked.{EachAlone, has_own, key_above_met, under_met}
+use Rattle.dq_find.proofs.QueryLaws.{answered_query, asked_from, asked_to, asked_in_order}
+use Rattle.dq_find.proofs.AskedRecords.{EachAlone, has_own, key_above_met, under_met}
 
 -- ---- what the keys of a query have
 
@@ -69,7 +69,7 @@ identifier_known : (message : Message) (syntax : Syntax) (d : ElementList) → i
     → AllByRecursion HasKnownVr (elements_of d)
 unfolding identifier_in
 identifier_known message syntax d e =
-    read_has_known_vrs syntax message.octets d (was_read _ (reading syntax message.octets) d e)
+    read_has_known_vrs syntax message.octets d (was_read _ (data_set_read syntax message.octets) d e)
 
 query_if : (keys : ElementList) (level : Level) (optional has well : Bool) (query : Query) → has_keys_above level keys ≡ has
     → AllByRecursion HasKnownVr (elements_of keys)

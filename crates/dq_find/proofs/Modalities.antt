@@ -9,11 +9,11 @@ use Rattle.std.proofs.lemmas.Cmp.{nat_list_cmp_total}
 use Rattle.std.proofs.lemmas.Map.Text.{is_eq-slice_cmp}
 use Rattle.std.proofs.lemmas.Slice.Eq.{bytes_eq-Decides}
 use Rattle.dq_list.specs.Among.{IsAmong}
-use Rattle.dq_tables.proofs.Rising.{Rises, HaveTheirs, each_among, only_one}
+use Rattle.dq_tables.proofs.RisingLists.{Rises, HaveTheirs, each_among, only_one}
 use Rattle.dq_tables.specs.Rows.{Record, octet_order}
 use Rattle.dq_tables.specs.Records.{data_set_of}
 use Rattle.dq_tables.proofs.Order.{each_weaker}
-use Rattle.dq_find.specs.Computed.{value_inserted, put_in_order, all_in_order, modalities_in}
+use Rattle.dq_find.specs.ComputedKeys.{value_inserted, put_in_order, all_in_order, modalities_in}
 use Rattle.dq_find.specs.Modalities.{modality_limit, modalities_of, IsModalityOf, IsPast, AreModalities}
 
 abbrev Values : Type 0

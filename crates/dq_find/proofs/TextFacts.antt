@@ -11,13 +11,13 @@ use Rattle.dq_vr.specs.Dictionary.{dictionary, vr_in, known_vr}
 use Rattle.dq_dataset.specs.declared.data_set.Element.{Element}
 use Rattle.dq_dataset.specs.declared.data_set.Value.TheVariants.{Octets}
 use Rattle.dq_dataset.specs.Rules.{pad_of, padded_value, is_sequence}
-use Rattle.dq_dataset.specs.Reading.{follows}
+use Rattle.dq_dataset.specs.DataSetReader.{follows}
 use Rattle.dq_dataset.specs.Facts.{IsElementTag, IsPlain, IsDataSet}
 use Rattle.dq_dataset.specs.Tree.{no_elements}
 use Rattle.dq_dataset.specs.View.{as_elements}
 use Rattle.dq_find.specs.declared.level.Level.{Level}
 use Rattle.dq_find.specs.Texts.{text}
-use Rattle.dq_find.specs.Computed.{study_values, series_values}
+use Rattle.dq_find.specs.ComputedKeys.{study_values, series_values}
 use Rattle.dq_value.specs.Title.{without_spaces}
 use Rattle.dq_find.specs.Levels.{level_name}
 use Rattle.dq_find.specs.Queries.{about_answers}

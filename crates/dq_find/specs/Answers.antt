@@ -1,5 +1,5 @@
--- What is said of the answers to a query: of which records they are, and what each of them tells
--- (PS3.4 section C.4.1).
+-- The answers to a query: which records they are of, and what each of them tells (PS3.4 section
+-- C.4.1).
 use Rattle.std.specs.Prelude.{◌≡◌, ◌↔◌, ℕ, true, List, map, codes}
 use Rattle.dq_list.specs.Among.{IsAmong}
 use Rattle.dq_vr.specs.declared.Tag.{Tag}
@@ -18,7 +18,7 @@ use Rattle.dq_find.specs.declared.level.Level.{Level}
 use Rattle.dq_find.specs.declared.level.Level.TheVariants.{Study, Series, Image}
 use Rattle.dq_find.specs.declared.query.Query.{Query}
 use Rattle.dq_find.specs.Levels.{kind_of, level_name}
-use Rattle.dq_find.specs.Computed.{with_computed}
+use Rattle.dq_find.specs.ComputedKeys.{with_computed}
 use Rattle.dq_find.specs.Queries.{answer_elements}
 
 -- A record matches a query: it is kept, it is of the query's level, and with what is computed of it,

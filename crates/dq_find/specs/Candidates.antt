@@ -11,13 +11,13 @@ use Rattle.dq_dataset.specs.Values.{element_at, element_octets}
 use Rattle.dq_match.specs.Wildcards.{any_run}
 use Rattle.dq_tables.specs.declared.row.Row.{Row}
 use Rattle.dq_tables.specs.Rows.{Record, record_of, row_of}
-use Rattle.dq_tables.specs.Finding.{record_at}
+use Rattle.dq_tables.specs.Lookups.{record_at}
 use Rattle.dq_find.specs.declared.level.Level.{Level}
 use Rattle.dq_find.specs.declared.level.Level.TheVariants.{Study, Series, Image}
 use Rattle.dq_find.specs.declared.query.Query.{Query}
 use Rattle.dq_find.specs.Levels.{kind_of, unique_key}
 use Rattle.dq_find.specs.Queries.{key_above, asked_records}
-use Rattle.dq_find.specs.Choosing.{is_asked}
+use Rattle.dq_find.specs.StudyChoice.{is_asked}
 
 -- the values that a query gives its level's own unique key
 abbrev pub own_values : Query → List (List ℕ)

@@ -1,13 +1,13 @@
 pub mod Levels
 pub mod Texts
 pub mod Modalities
-pub mod Computed
+pub mod ComputedKeys
 pub mod Queries
-pub mod Choosing
+pub mod StudyChoice
 pub mod Candidates
 pub mod Answers
 pub mod Pages
 pub mod OpenSearches
-pub mod Lazy
-pub mod Lazily
+pub mod PartialAnswers
+pub mod LazyAnswers
 pub mod Examples

@@ -7,12 +7,12 @@ use Rattle.dq_tables.specs.declared.fault.TableFault.{TableFault}
 use Rattle.dq_tables.specs.declared.row.Kind.TheVariants.{Study}
 use Rattle.dq_tables.specs.declared.row.Row.{Row}
 use Rattle.dq_tables.specs.Rows.{Record}
-use Rattle.dq_tables.specs.Finding.{records_of, records_after}
-use Rattle.dq_tables.specs.Keeping.{State, Reads}
+use Rattle.dq_tables.specs.Lookups.{records_of, records_after}
+use Rattle.dq_tables.specs.TableStates.{State, Reads}
 use Rattle.dq_archive.specs.declared.past.Past.{Past}
-use Rattle.dq_archive.specs.Pasts.{IsSame, state_in, records_in}
-use Rattle.dq_find.specs.declared.open_search.Left.{Left}
-use Rattle.dq_find.specs.declared.open_search.Left.TheVariants.{Studies, Named, Nothing}
+use Rattle.dq_archive.specs.PastArchives.{IsSame, state_in, records_in}
+use Rattle.dq_find.specs.declared.open_search.SearchCursor.{SearchCursor}
+use Rattle.dq_find.specs.declared.open_search.SearchCursor.TheVariants.{Studies, Named, Nothing}
 use Rattle.dq_find.specs.declared.open_search.OpenSearch.{OpenSearch}
 use Rattle.dq_find.specs.declared.query.Query.{Query}
 use Rattle.dq_find.specs.Candidates.{named_record}
@@ -24,7 +24,7 @@ studies_behind records None = records_of Study records
 studies_behind records (Some key) = records_after Study key records
 
 -- the records that are still to be looked at
-abbrev pub candidates_left : List Record → Query → Left → List Record
+abbrev pub candidates_left : List Record → Query → SearchCursor → List Record
 candidates_left records query (Studies behind) = studies_behind records behind
 candidates_left records query (Named keys from) = filter_map (named_record records query) (drop from keys)
 candidates_left records query Nothing = []
@@ -33,10 +33,10 @@ candidates_left records query Nothing = []
 unfoldable pub left_of : OpenSearch → List Record → List ElementList
 left_of search records =
     filter_map (record_answer records search.called search.query)
-    (candidates_left records search.query search.left)
+    (candidates_left records search.query search.cursor)
 
 -- the records that are looked at next, at most so many
-abbrev pub next_candidates : ℕ → List Record → Query → Left → List Record
+abbrev pub next_candidates : ℕ → List Record → Query → SearchCursor → List Record
 next_candidates most records query (Studies behind) = take most (studies_behind records behind)
 next_candidates most records query (Named keys from) =
     filter_map (named_record records query) (take most (drop from keys))
@@ -49,11 +49,11 @@ last_key (row ∷ []) = Some row.key
 last_key (row ∷ (next ∷ others)) = last_key (next ∷ others)
 
 -- what is left once some rows were looked at
-abbrev pub studies_after : Option (List ℕ) → Left
+abbrev pub studies_after : Option (List ℕ) → SearchCursor
 studies_after None = Nothing
 studies_after (Some key) = Studies (Some key)
 
-abbrev pub left_after : ℕ → List Row → Left → Left
+abbrev pub left_after : ℕ → List Row → SearchCursor → SearchCursor
 left_after most rows (Studies behind) = studies_after (last_key rows)
 left_after most rows (Named keys from) = Named keys (from + length (take most (drop from keys)))
 left_after most rows Nothing = Nothing
@@ -70,9 +70,9 @@ pub record Begins {T : Type 0} (state : T → State) (old new : Past T) (called 
 -- So many of the records that were left were looked at, or all of them, and the others are left.
 abbrev pub LookedAt : ℕ → List Record → OpenSearch → OpenSearch → Type 0
 LookedAt most records before after =
-    candidates_left records before.query before.left
-    ≡ next_candidates most records before.query before.left
-    ++ candidates_left records after.query after.left
+    candidates_left records before.query before.cursor
+    ≡ next_candidates most records before.query before.cursor
+    ++ candidates_left records after.query after.cursor
 
 -- A page was taken of a search: its answers stood first among those that were left, in this order, and
 -- the others are left. What is asked stays. With a fault nothing was taken.

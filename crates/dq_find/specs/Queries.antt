@@ -18,14 +18,14 @@ use Rattle.dq_match.specs.Identifiers.{is_query}
 use Rattle.dq_match.specs.Supported.{supported_part, has_unsupported}
 use Rattle.dq_match.specs.Answers.{refused_with, answer_to_keys}
 use Rattle.dq_tables.specs.Rows.{Record}
-use Rattle.dq_tables.specs.Finding.{records_of, records_above}
+use Rattle.dq_tables.specs.Lookups.{records_of, records_above}
 use Rattle.dq_tables.specs.Keys.{uid_at}
 use Rattle.dq_tables.specs.declared.row.Kind.TheVariants.{Study as StudyKind, Series as SeriesKind, Image as ImageKind}
 use Rattle.dq_find.specs.declared.level.Level.TheVariants.{Study, Series, Image}
 use Rattle.dq_find.specs.declared.level.Level.{Level}
 use Rattle.dq_find.specs.declared.query.Query.{Query}
 use Rattle.dq_find.specs.Levels.{level_keys, level_name, level_of, has_keys_above}
-use Rattle.dq_find.specs.Computed.{with_computed}
+use Rattle.dq_find.specs.ComputedKeys.{with_computed}
 use Rattle.dq_find.specs.Texts.{text}
 
 -- what a level asks for: its supported keys, each unique key above it once, and well-formed values

@@ -14,10 +14,10 @@ ghost use Rattle.dq_tables.specs.Records.{data_set_of};
 ghost use Rattle.dq_tables.specs.Sound.{IsSound};
 ghost use Rattle.dq_find.specs.declared.query.Query.{Query};
 ghost use Rattle.dq_find.specs.Queries.{message_query, answers_of_records, query_outcome, keys_outcome};
-ghost use Rattle.dq_find.specs.Computed.{modalities_in};
+ghost use Rattle.dq_find.specs.ComputedKeys.{modalities_in};
 ghost use Rattle.dq_find.specs.Answers.{MatchesQuery, HasKeyAbove, AreQueryAnswers, TellsLevel};
 ghost use Rattle.dq_find.specs.Modalities.{AreModalities};
-ghost use Rattle.dq_archive.specs.Later.{lasting};
+ghost use Rattle.dq_archive.specs.Additions.{lasting_records};
 ghost use Rattle.dq_find.specs.declared.open_search.OpenSearch.{OpenSearch};
 ghost use Rattle.dq_find.specs.OpenSearches.{left_of};
 ghost use Rattle.dq_find.specs.Pages.{HasGiven, GivesInTurn, IsPage, ArePages};
@@ -57,7 +57,7 @@ pub fn what_matches_has_the_key_above()
 }
 
 /// Keys that no message brought are answered as the identifier of a message is.
-#[tactic(auto, using(crate::proofs::Answered::same_by_keys))]
+#[tactic(auto, using(crate::proofs::QueryLaws::same_by_keys))]
 pub fn keys_are_answered_as_in_a_message()
     ensures { (records : List Record) (called : List ℕ) (message : Message) (syntax : Syntax)
         (identifier : ElementList) → identifier_in message syntax ≡ Ok identifier
@@ -65,15 +65,15 @@ pub fn keys_are_answered_as_in_a_message()
 {}
 
 /// A query that is refused has no answers (PS3.4 section C.4.1.1.4).
-#[tactic(auto, using(crate::proofs::Answered::none_refused))]
+#[tactic(auto, using(crate::proofs::QueryLaws::none_refused))]
 pub fn what_is_refused_has_no_answers()
     ensures { (records : List Record) (called : List ℕ) (message : Message) (syntax : Syntax)
         → (query_outcome records called message syntax).status ≢ success
         → (query_outcome records called message syntax).answers ≡ [] }
 {}
 
-/// What other institutions keep changes no answer.
-#[tactic(auto, using(crate::proofs::Answered::same_found))]
+/// Other institutions' records do not affect any answer.
+#[tactic(auto, using(crate::proofs::QueryLaws::same_found))]
 pub fn other_institutions_change_no_answer()
     ensures { (own other : List ℕ) → other ≢ own → (edits : List Edit) (rows : List Row)
         → IsRising rows → (called : List ℕ) (message : Message) (syntax : Syntax)
@@ -83,7 +83,7 @@ pub fn other_institutions_change_no_answer()
 
 /// Each answer tells its level, the title that was called, and that nothing can be retrieved (PS3.4
 /// section C.4.1.1.3.2).
-#[tactic(auto, using(crate::proofs::Answered::each_tells))]
+#[tactic(auto, using(crate::proofs::QueryLaws::each_tells))]
 pub fn each_answer_tells_who_answers()
     ensures { (records : List Record) (called : List ℕ) (query : Query)
         → AllByRecursion (TellsLevel called query.level) (answers_of_records records called query) }
@@ -97,9 +97,9 @@ pub fn modalities_are_those_of_the_series()
         → AreModalities series told → told ≡ modalities_in series }
 {}
 
-/// What `Pages` gives, one answer after the other or in pages, are the answers that stood first, each
-/// once, in their order, with the others left; they are all where none is left. A page of at most so
-/// many takes the first so many, and none is left after as many pages as that takes.
+/// The answers that `Pages` gives, one after the other or in pages, are those that stood first,
+/// each once, in their order, with the others left; they are all where none is left. A page of at
+/// most so many takes the first so many, and none is left after as many pages as that takes.
 pub fn answers_are_given_once_in_order()
     ensures in_turn { (before left : Found) (given : List ElementList)
         → GivesInTurn before given left → HasGiven before given left }
@@ -115,10 +115,10 @@ pub fn answers_are_given_once_in_order()
         → left.answers ≡ [] }
 {}
 
-/// What is left of an open search follows from the studies, the series and the images alone.
-#[tactic(auto, using(crate::proofs::Lasting::left_by))]
+/// The answers left of an open search follow from the studies, the series and the images alone.
+#[tactic(auto, using(crate::proofs::LastingRecords::left_by))]
 pub fn open_searches_follow_what_lasts()
-    ensures { (search : OpenSearch) (one other : List Record) → lasting one ≡ lasting other
+    ensures { (search : OpenSearch) (one other : List Record) → lasting_records one ≡ lasting_records other
         → left_of search one ≡ left_of search other }
 {}
 

@@ -2,10 +2,10 @@
 ghost use Rattle.std.specs.Prelude.{◌≡◌, ◌<◌, ◌++◌, ◌∷◌, [], true, length, IfOk, OnOk, MatchOption};
 ghost use Rattle.dq_dimse.specs.Holding.{plain_message};
 ghost use Rattle.dq_match.specs.Identifiers.{HasKnownTags};
-ghost use Rattle.dq_tables.specs.Keeping.{Reads};
+ghost use Rattle.dq_tables.specs.TableStates.{Reads};
 ghost use Rattle.dq_tables.specs.Rows.{of};
 ghost use Rattle.dq_find.specs.Queries.{query_outcome};
-ghost use Rattle.dq_find.specs.Lazily.{BeginsAt, LooksFurther, Finds, HasFound, found_then};
+ghost use Rattle.dq_find.specs.LazyAnswers.{BeginsAt, LooksFurther, Finds, HasFound, found_then};
 
 use crate::open_search::OpenSearch;
 use crate::query::{Query, query_of};
@@ -34,10 +34,10 @@ impl Model for LazyAnswers {
     ghost use Rattle.std.specs.Coded.{codes};
     ghost use Rattle.dq_dataset.specs.contracts.data_set.DataSet as data_set;
     ghost use Rattle.dq_match.specs.Identifiers.{HasKnownTags};
-    ghost use Rattle.dq_find.specs.Lazy.{Lazy};
+    ghost use Rattle.dq_find.specs.PartialAnswers.{PartialAnswers};
     ghost use Rattle.dq_find.specs.contracts.open_search.OpenSearch as open_search;
 
-    ghost Value = { Lazy };
+    ghost Value = { PartialAnswers };
 
     ghost coded = { Prim.hlevel (codes, data_set.the_row.coded, open_search.the_row.coded) };
 

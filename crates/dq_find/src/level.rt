@@ -2,7 +2,7 @@
 ghost use Rattle.std.specs.Prelude.{◌≡◌};
 ghost use Rattle.dq_find.specs.Levels.{kind_of, level_keys, level_name, unique_key, level_named, level_of, keys_above, has_keys_above};
 
-use crate::computed::octets_at;
+use crate::computed_keys::octets_at;
 use dq_dataset::DataSet;
 use dq_match::KeyList;
 use dq_tables::{Kind, uid_at};

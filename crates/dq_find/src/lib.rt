@@ -2,20 +2,20 @@
 //! C.4.1 and C.6.2).
 #![tactic(auto)]
 
-mod choosing;
-mod computed;
-mod finding;
+mod computed_keys;
 pub mod laws;
 mod lazy_answers;
 mod level;
 mod open_search;
 mod pages;
 mod query;
+mod search;
+mod study_choice;
 mod texts;
 
-pub use finding::{find, find_by_keys};
 pub use lazy_answers::{LazyAnswers, begin_find};
 pub use level::Level;
 pub use open_search::OpenSearch;
 pub use pages::Pages;
 pub use query::Query;
+pub use search::{find, find_by_keys};

@@ -4,17 +4,17 @@ ghost use Rattle.dq_match.specs.Identifiers.{HasKnownTags};
 ghost use Rattle.dq_dataset.specs.Tree.{ElementList};
 ghost use Rattle.dq_tables.specs.declared.row.Row.{Row as TheRow};
 ghost use Rattle.dq_tables.specs.Rows.{Record, row_of};
-ghost use Rattle.dq_archive.specs.Pasts.{QueriesOnly};
+ghost use Rattle.dq_archive.specs.PastArchives.{QueriesOnly};
 ghost use Rattle.dq_find.specs.Candidates.{named_rows, query_candidates};
 ghost use Rattle.dq_find.specs.OpenSearches.{Begins, TakesPage, next_candidates, left_after, left_of, last_key};
 ghost use Rattle.dq_find.specs.Queries.{record_answer};
 ghost use Rattle.dq_find.specs.declared.level.Level.TheVariants.{Study};
 
-use crate::choosing::choice_in;
-use crate::computed::octets_at;
-use crate::finding::{Search, looks_up};
+use crate::computed_keys::octets_at;
 use crate::level::Level;
 use crate::query::Query;
+use crate::search::{Search, looks_up};
+use crate::study_choice::choice_in;
 use dq_archive::Past;
 use dq_dataset::DataSet;
 use dq_list::Listed;
@@ -24,9 +24,9 @@ use dq_tables::laws::{day_numbers_are_in_order, honest_rows_are_sound};
 use dq_tables::{Kind, Row, TableFault, Tables};
 use std::alloc::{AllocError, Global};
 
-/// What a search has still to look at.
+/// The records that a search has still to look at.
 #[derive(Drop)]
-pub(crate) enum Left {
+pub(crate) enum SearchCursor {
     /// All studies in the order of their keys, or those behind a key.
     Studies(Option<Listed<u8>>),
     /// The records with some keys, from a place on.
@@ -34,12 +34,12 @@ pub(crate) enum Left {
     Nothing,
 }
 
-/// A search that is open: what was called, what is asked, and what is still to be looked at.
+/// An open search: the called AE title, the query, and where it goes on.
 #[derive(Drop)]
 pub struct OpenSearch {
     called: Listed<u8>,
     pub(crate) query: Query,
-    left: Left,
+    cursor: SearchCursor,
 }
 
 /// The part of some keys from a place on, at most so many.
@@ -92,7 +92,7 @@ fn scans_studies(alloc: Global, query: &Query) -> Result<bool, AllocError>
     }
 }
 
-impl Left {
+impl SearchCursor {
     /// The rows that are looked at next, at most so many.
     fn next_rows<T: Tables>(
         &self,
@@ -105,13 +105,17 @@ impl Left {
             (next_candidates most records search.now.query.now self.now)) result }
     {
         match self {
-            Left::Studies(None) => archive.rows_from(Kind::Study, 0, most),
-            Left::Studies(Some(key)) => archive.rows_after(Kind::Study, key.as_slice(), most),
-            Left::Named(keys, from) => {
+            SearchCursor::Studies(None) => archive.rows_from(Kind::Study, 0, most),
+            SearchCursor::Studies(Some(key)) => archive.rows_after(
+                Kind::Study,
+                key.as_slice(),
+                most,
+            ),
+            SearchCursor::Named(keys, from) => {
                 let next = part(keys.as_slice(), *from, most);
                 search.rows_with(archive, next)
             }
-            Left::Nothing => Ok(Listed::empty(archive.alloc)),
+            SearchCursor::Nothing => Ok(Listed::empty(archive.alloc)),
         }
     }
 
@@ -120,14 +124,14 @@ impl Left {
         ensures { self.new ≡ left_after most rows self.old }
     {
         match self {
-            Left::Studies(_) => {
+            SearchCursor::Studies(_) => {
                 *self = match last_key(rows) {
-                    Some(key) => Left::Studies(Some(key)),
-                    None => Left::Nothing,
+                    Some(key) => SearchCursor::Studies(Some(key)),
+                    None => SearchCursor::Nothing,
                 };
             }
-            Left::Named(keys, from) => *from += part(keys.as_slice(), *from, most).len(),
-            Left::Nothing => {}
+            SearchCursor::Named(keys, from) => *from += part(keys.as_slice(), *from, most).len(),
+            SearchCursor::Nothing => {}
         }
     }
 }
@@ -151,7 +155,7 @@ impl OpenSearch {
             return Ok(OpenSearch {
                 called,
                 query,
-                left: Left::Studies(None),
+                cursor: SearchCursor::Studies(None),
             });
         }
         let prepared = PreparedKeys::of(archive.alloc, &query.keys)?;
@@ -165,7 +169,7 @@ impl OpenSearch {
         Ok(OpenSearch {
             called,
             query,
-            left: Left::Named(keys, 0),
+            cursor: SearchCursor::Named(keys, 0),
         })
     }
 
@@ -186,9 +190,9 @@ impl OpenSearch {
             query: &self.query,
             prepared: &prepared,
         };
-        let rows = self.left.next_rows(archive, &search, most)?;
+        let rows = self.cursor.next_rows(archive, &search, most)?;
         let page = search.answers_of(archive, rows.as_slice(), 0, None)?;
-        self.left.pass(rows, most);
+        self.cursor.pass(rows, most);
         Ok(page)
     }
 
@@ -196,10 +200,10 @@ impl OpenSearch {
     pub fn is_done(&self) -> bool
         ensures { result ≡ true → (records : List Record) → left_of self.now records ≡ [] }
     {
-        match &self.left {
-            Left::Studies(_) => false,
-            Left::Named(keys, from) => keys.len() <= *from,
-            Left::Nothing => true,
+        match &self.cursor {
+            SearchCursor::Studies(_) => false,
+            SearchCursor::Named(keys, from) => keys.len() <= *from,
+            SearchCursor::Nothing => true,
         }
     }
 }

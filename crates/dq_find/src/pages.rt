@@ -35,7 +35,7 @@ impl Model for Pages {
 }
 
 impl Pages {
-    /// What was found, of which nothing is given yet.
+    /// Creates pages of the answers that were found. None is given yet.
     pub fn new(found: Found) -> Pages
         ensures { result ≡ found }
     {

@@ -1,4 +1,4 @@
-//! What a message asks for (PS3.4 section C.4.1.2).
+//! The query in a message (PS3.4 section C.4.1.2).
 ghost use Rattle.std.specs.Prelude.{◌≡◌, IfOk};
 ghost use Rattle.dq_dimse.specs.Holding.{plain_message};
 ghost use Rattle.dq_match.specs.Identifiers.{HasKnownTags};

@@ -22,8 +22,8 @@ asked_at connections None = None
 asked_at connections (Some at) = option_and_then asked_by (slice_get connections at)
 
 -- the request that waits first
-abbrev pub waiting : List HttpConnection → Option Request
-waiting connections = asked_at connections (first_waiting connections)
+abbrev pub waiting_request : List HttpConnection → Option Request
+waiting_request connections = asked_at connections (first_waiting connections)
 
 -- those behind a place, and then those up to it
 abbrev pub from_behind : ℕ → List HttpConnection → List HttpConnection
@@ -60,7 +60,7 @@ LetsIn old new = (came : List HttpConnection) × AreNew came × (new ≡ old ++ 
 -- ---- of a server
 
 abbrev pub next_of : {Wired : Type 0} → HttpServer Wired → Option Request
-next_of server = waiting server.connections.items
+next_of server = waiting_request server.connections.items
 
 -- Only its connections change.
 abbrev pub Answered : {Wired : Type 0} → HttpServer Wired → HttpServer Wired → Response → Type 0

@@ -12,7 +12,7 @@ use Rattle.dq_json.specs.declared.text.Repertoire.TheVariants.{Utf8}
 use Rattle.dq_json.specs.Text.{octets_told, tag_digits, text_in, repertoire_of}
 use Rattle.dq_json.specs.Attributes.{halves, group_member, name_groups, is_name, value_tokens, numbers, number_tokens, value_member, binary_member, is_number, is_spelled_as_text, octets_member, attribute}
 use Rattle.dq_json.specs.Json.{array_member, members, objects, json_tokens}
-use Rattle.dq_json.specs.Outermost.{keys_at, outermost_keys}
+use Rattle.dq_json.specs.OutermostKeys.{keys_at, outermost_keys}
 
 abbrev Deep : List Token → Type 0
 Deep ts = (n : ℕ) (rest : List Token) → keys_at (suc (suc n)) (ts ++ rest) ≡ keys_at (suc (suc n)) rest

@@ -13,12 +13,12 @@ use Rattle.dq_json.specs.declared.text.Repertoire.{Repertoire}
 use Rattle.dq_json.specs.Text.{text_in, tag_digits}
 
 -- the octets before the first = and those behind it
-unfoldable pub parted : List ℕ → Option ℕ → List ℕ × List ℕ
-parted octets None = (octets, [])
-parted octets (Some at) = (take at octets, drop 1 (drop at octets))
+unfoldable pub halves_at : List ℕ → Option ℕ → List ℕ × List ℕ
+halves_at octets None = (octets, [])
+halves_at octets (Some at) = (take at octets, drop 1 (drop at octets))
 
 abbrev pub halves : List ℕ → List ℕ × List ℕ
-halves octets = parted octets (position (λ octet. octet == 0x3d) octets)
+halves octets = halves_at octets (position (λ octet. octet == 0x3d) octets)
 
 -- a component group of a name, where it is not empty
 unfoldable pub group_member : Repertoire → List ℕ → List ℕ → List Token

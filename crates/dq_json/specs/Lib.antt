@@ -1,6 +1,6 @@
-pub mod Added
+pub mod AddedTokens
 pub mod Attributes
 pub mod Json
 pub mod Text
 pub mod Keywords
-pub mod Outermost
+pub mod OutermostKeys

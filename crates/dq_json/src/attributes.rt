@@ -4,7 +4,7 @@ ghost use Rattle.std.specs.Prelude.{◌≡◌, ◌==◌, ◌∷◌, [], ◌++◌
 ghost use Rattle.json.specs.Token.{begin_object, begin_array, key, string};
 ghost use Rattle.dq_vr.specs.Vr.{letters_of};
 ghost use Rattle.dq_value.specs.Parts.{element_values};
-ghost use Rattle.dq_json.specs.Added.{Adds};
+ghost use Rattle.dq_json.specs.AddedTokens.{Adds};
 ghost use Rattle.dq_json.specs.Text.{tag_digits};
 ghost use Rattle.dq_json.specs.Attributes.{halves, group_member, name_groups, some_value, value_tokens, numbers, number_tokens, value_member, binary_member, is_spelled_as_text, octets_member};
 
@@ -16,7 +16,7 @@ use json::Writer;
 use std::alloc::{AllocError, Global};
 
 /// The octets before and behind the first `=`.
-#[tactic(auto, unfolding(crate::specs::Attributes::parted))]
+#[tactic(auto, unfolding(crate::specs::Attributes::halves_at))]
 fn halves(octets: &[u8]) -> (&[u8], &[u8])
     ensures { (result.0.now, result.1.now) ≡ halves octets.now }
 {

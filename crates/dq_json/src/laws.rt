@@ -3,7 +3,7 @@ ghost use Rattle.std.specs.Prelude.{◌≡◌, map};
 ghost use Rattle.dq_dataset.specs.Tree.{ElementList};
 ghost use Rattle.dq_dataset.specs.View.{elements_of};
 ghost use Rattle.dq_json.specs.Json.{json_tokens};
-ghost use Rattle.dq_json.specs.Outermost.{outermost_keys};
+ghost use Rattle.dq_json.specs.OutermostKeys.{outermost_keys};
 ghost use Rattle.dq_json.specs.Text.{tag_digits};
 
 /// The JSON of a data set has one member for each element and no other, by its tag, in order.

@@ -3,10 +3,10 @@
 
 mod attributes;
 mod code_tables;
+mod json_writer;
 mod keywords;
 pub mod laws;
 mod text;
-mod writing;
 
+pub use json_writer::json_of;
 pub use keywords::{KEYWORDS, tag_named};
-pub use writing::json_of;

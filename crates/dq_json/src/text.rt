@@ -2,7 +2,7 @@
 ghost use Rattle.std.specs.Prelude.{◌≡◌, ◌<◌, ◌++◌, ◌∷◌, [], IfOk, OnOk, string_bytes, encode_utf8, flat_map};
 ghost use Rattle.json.specs.Token.{string};
 ghost use Rattle.dq_dataset.specs.declared.data_set.Value.TheVariants.{Octets};
-ghost use Rattle.dq_json.specs.Added.{Adds};
+ghost use Rattle.dq_json.specs.AddedTokens.{Adds};
 ghost use Rattle.dq_json.specs.Text.{ascii_or_replaced, character_in, octets_told, text_in, repertoire_of, repertoire_in, repertoire_named, tag_digits};
 
 use crate::code_tables::{CodeTable, NONE};

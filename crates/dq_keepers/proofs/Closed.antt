@@ -6,9 +6,9 @@ use Rattle.sqlite.specs.State.{State}
 use Rattle.sqlite.specs.Files.{HoldsDatabase}
 use Rattle.dq_tables.specs.declared.row.Row.{Row}
 use Rattle.dq_sql.specs.Tie.{HasRows}
-use Rattle.dq_sql.specs.Filling.{IsFilled}
-use Rattle.dq_sql.specs.Restarting.{HoldsAlone}
-use Rattle.dq_sql.proofs.Restarted.{alone_holds}
+use Rattle.dq_sql.specs.FirstRows.{IsFilled}
+use Rattle.dq_sql.specs.Restarts.{HoldsAlone}
+use Rattle.dq_sql.proofs.Restarts.{alone_holds}
 
 -- The database file of a filled store has its rows alone.
 pub filled_alone : (s : State) (rows : List Row) (image : Image) → IsFilled s rows → HoldsDatabase image s.committed.trees

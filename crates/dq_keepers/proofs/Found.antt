@@ -12,10 +12,10 @@ use Rattle.dq_tables.specs.Sound.{IsSound}
 use Rattle.dq_tables.proofs.OneOrder.{one_order}
 use Rattle.dq_sql.specs.declared.version.Version.{Version}
 use Rattle.dq_sql.specs.declared.version.Version.TheVariants.{One, Two}
-use Rattle.dq_sql.specs.Copying.{copied_rows, IsCopyOf}
-use Rattle.dq_sql.specs.Migrating.{migrated_rows}
+use Rattle.dq_sql.specs.StoreCopies.{copied_rows, IsCopyOf}
+use Rattle.dq_sql.specs.MigratedRows.{migrated_rows}
 use Rattle.dq_sql.specs.Migration.{IsMigrated}
-use Rattle.dq_sql.specs.Restarting.{ImageHoldsRows, IsReopened}
+use Rattle.dq_sql.specs.Restarts.{ImageHoldsRows, IsReopened}
 use Rattle.dq_sql.specs.Schema.{schema_of}
 use Rattle.dq_sql.specs.Tie.{HasRowsOf, Stays}
 use Rattle.dq_sql.proofs.OneSchema.{one_schema}

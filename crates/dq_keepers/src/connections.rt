@@ -13,11 +13,11 @@ ghost use Rattle.sqlite.specs.Start.{FindsIn};
 ghost use Rattle.dq_tables.specs.declared.row.Row.{Row};
 ghost use Rattle.dq_core.specs.Looking.{LeavesAlone};
 ghost use Rattle.dq_sql.specs.declared.version.Version.TheVariants.{Two};
-ghost use Rattle.dq_sql.specs.Adopting.{HoldOctets, IsFound};
-ghost use Rattle.dq_sql.specs.Copying.{IsCopyOf};
-ghost use Rattle.dq_sql.specs.Filling.{IsFilled};
+ghost use Rattle.dq_sql.specs.FoundStores.{HoldOctets, IsFound};
+ghost use Rattle.dq_sql.specs.StoreCopies.{IsCopyOf};
+ghost use Rattle.dq_sql.specs.FirstRows.{IsFilled};
 ghost use Rattle.dq_sql.specs.Migration.{IsMigrated};
-ghost use Rattle.dq_sql.specs.Restarting.{IsReopened};
+ghost use Rattle.dq_sql.specs.Restarts.{IsReopened};
 ghost use Rattle.dq_sql.specs.Tie.{Stays};
 ghost use Rattle.dq_keepers.specs.Closing.{HaveAlone};
 

@@ -14,7 +14,7 @@ pub struct RowsInFile {
 }
 
 impl Tables for RowsInFile {
-    ghost use Rattle.dq_sql.specs.Kept.{kept_sound, left_sound};
+    ghost use Rattle.dq_sql.specs.OneContent.{kept_sound, left_sound};
 
     ghost state = { λ t. ⟦<HostTables<Wary> as Tables>⟧.state t.tables };
 

@@ -9,9 +9,9 @@ ghost use Rattle.dq_core.specs.Looking.{LeavesAlone};
 ghost use Rattle.dq_core.specs.Soundness.{HoldSound};
 ghost use Rattle.dq_sql.specs.declared.version.Version.{Version};
 ghost use Rattle.dq_sql.specs.declared.version.Version.TheVariants.{One};
-ghost use Rattle.dq_sql.specs.Copying.{copied_rows};
-ghost use Rattle.dq_sql.specs.Migrating.{migrated_rows};
-ghost use Rattle.dq_sql.specs.Restarting.{ImageHoldsRows};
+ghost use Rattle.dq_sql.specs.StoreCopies.{copied_rows};
+ghost use Rattle.dq_sql.specs.MigratedRows.{migrated_rows};
+ghost use Rattle.dq_sql.specs.Restarts.{ImageHoldsRows};
 ghost use Rattle.dq_keepers.specs.Closing.{HaveAlone, IsClosed};
 ghost use Rattle.dq_keepers.specs.Contents.{HoldsRowsOf, ShowsRowsOf, AsFarAsRead};
 

@@ -14,7 +14,7 @@ use Rattle.dq_match.specs.declared.keys.Nesting.{Nesting}
 use Rattle.dq_match.specs.declared.keys.Nesting.TheVariants.{Outer}
 use Rattle.dq_match.specs.Keys.{is_key, other_than_keys}
 use Rattle.dq_match.specs.AsLent.{is_left, is_met_at_once}
-use Rattle.dq_match.specs.Fitting.{EachIsMet}
+use Rattle.dq_match.specs.StandardMatching.{EachIsMet}
 use Rattle.dq_match.specs.Matching.{period, fits, meets, is_matched_elsewhere, is_start}
 
 pub all_pass : {X : Type 0} (p : X → Bool) (xs : List X) → ((x : X) → IsAmong x xs → p x ≡ true) → list_all p xs ≡ true

@@ -5,7 +5,7 @@ use Rattle.std.proofs.lemmas.Bool.Decides.{nat_tests}
 use Rattle.dq_vr.specs.declared.Tag.{Tag}
 use Rattle.dq_vr.specs.Tag.{is_below}
 use Rattle.dq_dataset.specs.Tree.{ElementList, no_elements, element, sequence, ItemList, no_items, item}
-use Rattle.dq_dataset.specs.Reading.{follows}
+use Rattle.dq_dataset.specs.DataSetReader.{follows}
 use Rattle.dq_dataset.specs.Facts.{IsElementTag, AreElements, AreItems}
 use Rattle.dq_match.specs.declared.supported.KeyScope.{KeyScope}
 use Rattle.dq_match.specs.Supported.{is_supported, below, supported_part, supported_items}

@@ -17,7 +17,7 @@ use Rattle.dq_dataset.specs.declared.data_set.Value.TheVariants.{Octets, Items}
 use Rattle.dq_match.specs.declared.keys.Nesting.{Nesting}
 use Rattle.dq_match.specs.declared.keys.Nesting.TheVariants.{Inner}
 use Rattle.dq_match.specs.Matching.{is_matched_elsewhere, with_period, each_met, all_met, meets}
-use Rattle.dq_match.specs.Fitting.{EachIsMet, PeriodIsMet, SomeItemFits}
+use Rattle.dq_match.specs.StandardMatching.{EachIsMet, PeriodIsMet, SomeItemFits}
 
 -- ---- one key after the other
 

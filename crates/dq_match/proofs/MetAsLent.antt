@@ -20,7 +20,7 @@ use Rattle.dq_dataset.specs.Values.{element_at, element_octets}
 use Rattle.dq_dataset.specs.Rules.{follows}
 use Rattle.dq_dataset.specs.Facts.{AreElements, IsDataSet}
 use Rattle.dq_dataset.specs.Grammar.{IsSpelled}
-use Rattle.dq_dataset.specs.Reading.{reading}
+use Rattle.dq_dataset.specs.DataSetReader.{data_set_read}
 use Rattle.dq_dataset.specs.Lending.{Spelled}
 use Rattle.dq_dataset.specs.Agreement.{IsLentValue, IsLent, Lends, AgreesWith}
 use Rattle.dq_match.specs.Values.{octets_meet}
@@ -130,8 +130,8 @@ module _ (later : List Tag) (d : ElementList) (facts : IsDataSet d) where
 
 module _ (later : List Tag) (keys : List Element) (octets : List ℕ) (xs : List (Result Spelled ReadFault))
     (facts : (d : ElementList) → IsSpelled Explicit octets d → IsDataSet d)
-    (reads : (d : ElementList) → IsSpelled Explicit octets d → reading Explicit octets ≡ Ok d) where
-  pub passes : AgreesWith Explicit octets xs → list_all (is_met_at_once later (result_unwrap_or (reading Explicit octets) no_elements)) keys ≡ true
+    (reads : (d : ElementList) → IsSpelled Explicit octets d → data_set_read Explicit octets ≡ Ok d) where
+  pub passes : AgreesWith Explicit octets xs → list_all (is_met_at_once later (result_unwrap_or (data_set_read Explicit octets) no_elements)) keys ≡ true
       → all_meet later keys true xs ≡ true
   passes (inl one) met = grind (arith, nat_tests, each_by)
   passes (inr none) met = faulty_meets later keys true none.1 xs (elements_of none.0) none.3

@@ -27,11 +27,11 @@ use Rattle.dq_dataset.specs.View.{elements_of, has_tag}
 use Rattle.dq_dataset.specs.Values.{element_at, element_octets, values_of, values_in, sole_at}
 use Rattle.dq_dataset.proofs.KnownVrs.{HasKnownVr}
 use Rattle.dq_match.specs.declared.keys.Nesting.{Nesting}
-use Rattle.dq_match.specs.Fitting.{EachIsMet}
+use Rattle.dq_match.specs.StandardMatching.{EachIsMet}
 use Rattle.dq_match.specs.Keys.{is_tag}
 use Rattle.dq_match.specs.Matching.{period, is_matched_elsewhere, meets}
 use Rattle.dq_match.specs.Ranges.{Bounds, bound, bounds_of_ends, bounds_by_ends, bounds, single, unless_open, has_day, both, date_meets}
-use Rattle.dq_match.specs.Several.{is_plain}
+use Rattle.dq_match.specs.SeveralValues.{is_plain}
 use Rattle.dq_match.specs.Values.{is_same, is_asterisk, is_universal, octets_meet, some_meet, value_meets, matching_of}
 use Rattle.dq_match.specs.Wildcards.{any_run}
 use Rattle.dq_match.proofs.SeveralValues.{plain_meets}

@@ -17,7 +17,7 @@ use Rattle.dq_match.specs.declared.wildcards.Casing.TheVariants.{Exact}
 use Rattle.dq_match.specs.declared.values.Matching.TheVariants.{WildCard}
 use Rattle.dq_match.specs.Wildcards.{wild, after_run, after_one, stands_for, any_run, any_one}
 use Rattle.dq_match.specs.Values.{is_same}
-use Rattle.dq_match.specs.Several.{is_one_of_values, AreMetByEquality, is_plain}
+use Rattle.dq_match.specs.SeveralValues.{is_one_of_values, AreMetByEquality, is_plain}
 
 -- ---- a pattern without wild cards fits itself alone
 

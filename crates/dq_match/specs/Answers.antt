@@ -5,7 +5,7 @@ use Rattle.dq_match.specs.declared.responses.Found.{Found}
 use Rattle.dq_match.specs.Matching.{fits}
 use Rattle.dq_match.specs.Responses.{shown_data_set}
 
--- What is refused has no answers.
+-- A refusal has no answers.
 abbrev pub refused_with : ℕ → Found
 refused_with status = record { status = status; optional = false; answers = [] }
 
@@ -13,7 +13,8 @@ refused_with status = record { status = status; optional = false; answers = [] }
 abbrev pub answer_to_keys : ElementList → ElementList → Option ElementList
 answer_to_keys keys held = if fits keys held then Some (shown_data_set keys held) else None
 
--- What was found, of which the answers from a place on are given, at most so many. A refusal has none.
+-- A part of what was found: the answers from a place on are given, at most so many. A refusal has
+-- none.
 abbrev pub found_part : ℕ → ℕ → Found → Found
 found_part from most found = record {
   status = found.status;

@@ -42,8 +42,8 @@ abbrev pub meets_keys : List Tag → List Element → Spelled → Bool
 meets_keys later keys e =
     not (are_the_value e.vr e.octets) || list_all (is_met_by later e) keys
 
--- What follows is met too, after what is met so far. Octets with a fault spell no data set: nothing
--- is known of their record, which meets every key.
+-- The following elements are met too, after those met so far. Octets with a fault spell no data
+-- set: nothing is known of their record, which meets every key.
 abbrev pub all_meet : List Tag → List Element → Bool → List (Result Spelled ReadFault) → Bool
 all_meet later keys met [] = met
 all_meet later keys met (Ok e ∷ others) =

@@ -5,11 +5,11 @@ pub mod Pieces
 pub mod Ranges
 pub mod DateBounds
 pub mod Values
-pub mod Several
+pub mod SeveralValues
 pub mod Takes
 pub mod Keys
 pub mod Matching
-pub mod Fitting
+pub mod StandardMatching
 pub mod Identifiers
 pub mod Supported
 pub mod Responses

@@ -1,4 +1,4 @@
--- What a response shows of a record (PS3.4 sections C.4.1.1.3.2 and K.4.1.1.3.2).
+-- The part of a record that a response shows (PS3.4 sections C.4.1.1.3.2 and K.4.1.1.3.2).
 use Rattle.std.specs.Prelude.{Bool, true, false, List, [], ◌∷◌, Option, Some, None, map, filter, option_map, if◌then◌else◌}
 use Rattle.dq_list.specs.Lengths.{is_empty}
 use Rattle.dq_vr.specs.declared.Tag.{Tag}

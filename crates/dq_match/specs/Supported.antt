@@ -66,8 +66,8 @@ key_tags Series = series_keys
 key_tags Image = image_keys
 key_tags Entry = entry_keys
 
--- What is no key stays in an identifier too. A worklist query has no level and no retrieval, so of
--- that it has the character set alone.
+-- An element that is not a key stays in an identifier too. A worklist query has no level and no
+-- retrieval, so of that it has the character set alone.
 unfoldable pub leaves : KeyList → Tag → Bool
 leaves Study tag = is_tag_among tag other_than_keys
 leaves Series tag = is_tag_among tag other_than_keys

@@ -12,7 +12,7 @@ use Rattle.dq_match.specs.declared.values.Matching.{Matching}
 use Rattle.dq_match.specs.Ranges.{both, has_day, has_time}
 use Rattle.dq_match.specs.DateBounds.{days_of}
 use Rattle.dq_match.specs.Values.{matching_of, is_met_by_value}
-use Rattle.dq_match.specs.Several.{is_one_of_values}
+use Rattle.dq_match.specs.SeveralValues.{is_one_of_values}
 
 -- a value is taken: it is one of the set, or in a range, or some value of the key is met by it
 abbrev pub is_taken : KeyValues → Matching → List (List ℕ) → List ℕ → Bool

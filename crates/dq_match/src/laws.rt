@@ -19,7 +19,7 @@ ghost use Rattle.dq_match.specs.Ranges.{Bounds, has_day, has_time, date_meets, t
 ghost use Rattle.dq_match.specs.Values.{is_name_pad, compared_name, value_meets, is_universal, octets_meet};
 ghost use Rattle.dq_match.specs.Keys.{is_key};
 ghost use Rattle.dq_match.specs.Matching.{fits, items_meet, all_met};
-ghost use Rattle.dq_match.specs.Fitting.{EachIsMet, PeriodIsMet, SomeItemFits};
+ghost use Rattle.dq_match.specs.StandardMatching.{EachIsMet, PeriodIsMet, SomeItemFits};
 ghost use Rattle.dq_match.specs.Universal.{all_universal, asks_nothing};
 ghost use Rattle.dq_match.specs.Supported.{is_supported, supported_part, supported_value, supported_element, has_unsupported};
 ghost use Rattle.dq_match.specs.Responses.{no_value, character_set, cut_keys, before, shown_element, shown_elements, shown_data_set};
@@ -150,8 +150,8 @@ pub fn names_are_met_in_any_case()
         → value_meets Name key (value ++ pad ∷ []) ≡ value_meets Name key value }
 {}
 
-/// What is left of an identifier has nothing that is not supported, and nothing is struck just
-/// where it is left as it was.
+/// The rest of an identifier has nothing that is not supported, and nothing is struck just where
+/// it is left as it was.
 #[tactic(auto, using(crate::proofs::Struck::nothing_left, crate::proofs::Struck::nothing_struck))]
 pub fn striking_again_strikes_nothing()
     ensures again { (scope : KeyScope) (identifier : ElementList)
@@ -161,8 +161,8 @@ pub fn striking_again_strikes_nothing()
         ↔ (supported_part scope identifier ≡ identifier) }
 {}
 
-/// What stays of an identifier is each element whose tag is in the list of its place, in order, and
-/// of a sequence the items. In each item stays what is in the list of the items.
+/// The part of an identifier that stays is each element whose tag is in the list of its place, in
+/// order, and of a sequence the items. In each item stays what is in the list of the items.
 #[tactic(auto, using(crate::proofs::Struck::what_stays, crate::proofs::Struck::inside_stays))]
 pub fn what_is_supported_stays()
     ensures elements { (scope : KeyScope) (identifier : ElementList)
@@ -187,8 +187,8 @@ pub fn each_key_shows_the_element_of_the_record()
         ≡ record { tag = key.tag; vr = key.vr; value = no_value key.value } }
 {}
 
-/// What is shown of a record has the tags of the keys, after that of the character set where the
-/// record has one (PS3.4 section C.4.1.1.3.2).
+/// The shown data set of a record has the tags of the keys, after that of the character set where
+/// the record has one (PS3.4 section C.4.1.1.3.2).
 #[tactic(auto, using(crate::proofs::ShownTags::tags_shown))]
 pub fn what_is_asked_is_shown()
     ensures { (identifier held : ElementList)

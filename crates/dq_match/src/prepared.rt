@@ -33,7 +33,7 @@ pub(crate) struct PreparedKey {
     pub(crate) value: PreparedValue,
 }
 
-/// What a key asks for: values, or a sequence with an item.
+/// The content of a key: values, or a sequence with an item.
 #[cycle(prepared_keys)]
 #[derive(Drop)]
 pub(crate) enum PreparedValue {

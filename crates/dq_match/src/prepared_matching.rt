@@ -9,7 +9,7 @@ ghost use Rattle.dq_match.specs.Matching.{each_met, items_meet, all_met, fits, m
 ghost use Rattle.dq_match.specs.Prepared.{element_of_key};
 
 use crate::keys::{Nesting, items_in, octets_in};
-use crate::lending::is_left;
+use crate::lent_matching::is_left;
 use crate::matching::is_matched_elsewhere;
 use crate::prepared::{PreparedKey, PreparedKeys, PreparedValue};
 use dq_dataset::{DataSet, Element};

@@ -1,4 +1,4 @@
-//! What a response shows of a record (PS3.4 sections C.4.1.1.3.2 and K.4.1.1.3.2).
+//! The part of a record that a response shows (PS3.4 sections C.4.1.1.3.2 and K.4.1.1.3.2).
 #![tactic(auto, using(crate::proofs::Smaller::smaller))]
 
 ghost use Rattle.std.specs.Prelude.{◌≡◌, IfOk, map, filter};
@@ -104,7 +104,7 @@ fn shown_keys(
     Ok(shown)
 }
 
-/// What is shown for one key.
+/// Returns the element that is shown for one key.
 #[cycle(shown)]
 fn shown_element(
     alloc: Global,
@@ -158,8 +158,9 @@ fn shown_items(alloc: Global, keys: &DataSet, items: &[DataSet]) -> Result<Vec<D
     Ok(shown)
 }
 
-/// What a response to the identifier shows of a record: for each key the record's element, or one
-/// without a value, and the record's character set (0008,0005) where it has a value.
+/// Returns the data set that a response to the identifier shows of a record: for each key the
+/// record's element, or one without a value, and the record's character set (0008,0005) where it
+/// has a value.
 #[tactic(auto, unfolding(crate::specs::Responses::shown_data_set))]
 pub fn shown(alloc: Global, identifier: &DataSet, held: &DataSet) -> Result<DataSet, AllocError>
     requires { HasKnownTags identifier.now }

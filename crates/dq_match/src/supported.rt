@@ -196,7 +196,7 @@ fn below_step(tag: Tag) -> KeyScope
     }
 }
 
-/// What is supported, and whether something is not.
+/// Returns the supported part, and whether anything is not supported.
 #[cycle(supported)]
 fn supported_part(
     alloc: Global,

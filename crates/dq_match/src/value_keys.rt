@@ -10,7 +10,7 @@ ghost use Rattle.dq_match.specs.Values.{matching_of, is_met_by_value, some_meet,
 ghost use Rattle.dq_match.specs.Takes.{AreTaken};
 
 use crate::ranges::{Bounds, Span, date_bounds, is_date_met, is_time_met, time_bounds};
-use crate::several::in_order;
+use crate::several_values::in_order;
 use crate::values::{Matching, has_no_values, is_universal, some_key_met};
 use dq_list::Listed;
 use dq_value::{Parts, date_of, time_of, values};

@@ -5,10 +5,10 @@ ghost use Rattle.dq_list.specs.Lengths.{is_empty};
 ghost use Rattle.dq_value.specs.Parts.{element_values};
 ghost use Rattle.dq_value.specs.Trimming.{is_padded, without_trailing};
 ghost use Rattle.dq_match.specs.Values.{matching_of, is_name_pad, compared_name, value_meets, is_asterisk, is_universal, is_met_by_value, some_meet, octets_meet, is_well_formed_value, are_well_formed};
-ghost use Rattle.dq_match.specs.Several.{AreMetByEquality};
+ghost use Rattle.dq_match.specs.SeveralValues.{AreMetByEquality};
 
 use crate::ranges::{date_bounds, date_meets, time_bounds, time_meets};
-use crate::several::all_plain;
+use crate::several_values::all_plain;
 use crate::wildcards::{Casing, wild_by};
 use dq_value::{Parts, sole_value, values};
 use dq_vr::Vr;

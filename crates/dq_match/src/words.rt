@@ -163,7 +163,7 @@ impl Stretch {
         stretch
     }
 
-    /// What is still there of the word after going on by a period.
+    /// Returns the stretch of the word that is left after going on by a period.
     pub(crate) fn shifted(self, casing: Casing, word: &[u8]) -> Stretch
         requires { IsStretchOf casing word.now self }
         ensures stretch { IsStretchOf casing word.now result }

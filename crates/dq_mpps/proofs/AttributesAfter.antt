@@ -16,7 +16,7 @@ use Rattle.dq_dataset.proofs.Views.{as_elements-elements_of, elements_of-as_elem
 use Rattle.dq_mpps.specs.Attributes.{is_fixed}
 use Rattle.dq_dataset.specs.Same.{same_element, has_element}
 use Rattle.dq_dataset.specs.Values.{element_at}
-use Rattle.dq_mpps.specs.Changing.{changes_fixed}
+use Rattle.dq_mpps.specs.NSet.{changes_fixed}
 use Rattle.std.specs.Option.{option_or}
 use Rattle.std.proofs.lemmas.List.Folds.{find-append}
 use Rattle.dq_list.proofs.Finding.{found_filtered, none_filtered}

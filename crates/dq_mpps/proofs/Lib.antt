@@ -1,7 +1,7 @@
-pub mod Changed
-pub mod Created
-pub mod Fitting
-pub mod Named
+pub mod ChangedStep
+pub mod CreatedStep
+pub mod FittingChanges
+pub mod NamedEntries
 pub mod Others
 pub mod Outcomes
 pub mod Refusals

@@ -6,8 +6,8 @@ use Rattle.dq_config.specs.Limits.{Limits}
 use Rattle.dq_tables.specs.declared.row.Row.{Row}
 use Rattle.dq_tables.specs.Rows.{Record, Edit, IsRising, of, by, after}
 use Rattle.dq_tables.proofs.Lens.{others}
-use Rattle.dq_mpps.specs.Creating.{create_outcome}
-use Rattle.dq_mpps.specs.Changing.{set_outcome}
+use Rattle.dq_mpps.specs.NCreate.{create_outcome}
+use Rattle.dq_mpps.specs.NSet.{set_outcome}
 
 pub created_alike : (own other : List ℕ) → other ≢ own → (edits : List Edit) (rows : List Row)
     → IsRising rows → (limits : Limits) (message : Message) (syntax : Syntax)

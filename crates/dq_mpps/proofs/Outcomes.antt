@@ -6,7 +6,7 @@ use Rattle.dq_value.specs.Uid.{is_uid}
 use Rattle.dq_dataset.specs.declared.fault.ReadFault.{ReadFault}
 use Rattle.dq_dataset.specs.declared.header.Syntax.{Syntax}
 use Rattle.dq_dataset.specs.Tree.{ElementList}
-use Rattle.dq_dataset.specs.Reading.{reading}
+use Rattle.dq_dataset.specs.DataSetReader.{data_set_read}
 use Rattle.dq_dimse.specs.Received.{Message}
 use Rattle.dq_dimse.specs.Statuses.{success, processing_failure, invalid_sop_instance, resource_limitation}
 use Rattle.dq_config.specs.Limits.{Limits}
@@ -14,15 +14,15 @@ use Rattle.dq_dataset.specs.declared.header.Syntax.TheVariants.{Explicit}
 use Rattle.dq_dataset.specs.Canonical.{canonical}
 use Rattle.dq_dataset.specs.Editing.{merged_data_set}
 use Rattle.dq_tables.specs.declared.row.Kind.TheVariants.{Step}
-use Rattle.dq_tables.specs.Finding.{record_at}
+use Rattle.dq_tables.specs.Lookups.{record_at}
 use Rattle.dq_tables.specs.Rows.{Record, Edit, Put}
 use Rattle.dq_dimse.specs.Receiving.{is_over}
-use Rattle.dq_tables.specs.Serving.{first_refusal, refusal_or}
-use Rattle.dq_tables.proofs.Refusing.{first_in, first_past}
+use Rattle.dq_tables.specs.ServiceEffects.{first_refusal, refusal_or}
+use Rattle.dq_tables.proofs.Refusals.{first_in, first_past}
 use Rattle.dq_dimse.specs.Limits.{other_limit}
 use Rattle.dq_mpps.specs.Steps.{spelled_step, step_record}
-use Rattle.dq_mpps.specs.Creating.{create_refusals, create_outcome}
-use Rattle.dq_mpps.specs.Changing.{kept_data_set, is_too_long, set_attribute_refusals, set_outcome}
+use Rattle.dq_mpps.specs.NCreate.{create_refusals, create_outcome}
+use Rattle.dq_mpps.specs.NSet.{kept_data_set, is_too_long, set_attribute_refusals, set_outcome}
 use Rattle.dq_mpps.specs.Views.{step_created, step_changed}
 
 -- what is said of a value where there is one
@@ -35,7 +35,7 @@ read_is (Err fault) d some = cc
 
 not_read : (limits : Limits) (records : List Record) (message : Message) (syntax : Syntax) (r : Result ElementList ReadFault)
     → is_over other_limit message ≡ false
-    → reading syntax message.octets ≡ r → result_ok r ≡ None → create_outcome limits records message syntax ≡ (processing_failure, [])
+    → data_set_read syntax message.octets ≡ r → result_ok r ≡ None → create_outcome limits records message syntax ≡ (processing_failure, [])
 unfolding create_outcome
 not_read limits records message syntax (Ok d) h same none = cc
 not_read limits records message syntax (Err fault) h same none = rw (h, same) refl
@@ -45,11 +45,11 @@ module _ (limits : Limits) (records : List Record) (message : Message) (syntax :
   unfolding create_outcome
   create_over h = rw h refl
 
-  pub create_unread : is_over other_limit message ≡ false → result_ok (reading syntax message.octets) ≡ None
+  pub create_unread : is_over other_limit message ≡ false → result_ok (data_set_read syntax message.octets) ≡ None
       → create_outcome limits records message syntax ≡ (processing_failure, [])
-  create_unread h none = not_read limits records message syntax (reading syntax message.octets) h refl none
+  create_unread h none = not_read limits records message syntax (data_set_read syntax message.octets) h refl none
 
-  module _ (d : ElementList) (h : is_over other_limit message ≡ false) (read : reading syntax message.octets ≡ Ok d) where
+  module _ (d : ElementList) (h : is_over other_limit message ≡ false) (read : data_set_read syntax message.octets ≡ Ok d) where
     pub create_unnamed : is_uid message.command.sop_instance ≡ false → create_outcome limits records message syntax ≡ (invalid_sop_instance, [])
     unfolding create_outcome
     create_unnamed no_uid = rw (h, read, no_uid) refl
@@ -107,7 +107,7 @@ module _ (uid : List ℕ) (sent : ElementList) (r : Record) (kept : ElementList)
       accepted h short ∙ ap (λ (o : List ℕ). (success, Put (spelled_step uid o) ∷ [])) (sym there)
 
 set_not_read : (records : List Record) (message : Message) (syntax : Syntax) (r : Result ElementList ReadFault) → is_over other_limit message ≡ false
-    → reading syntax message.octets ≡ r → result_ok r ≡ None → set_outcome records message syntax ≡ (processing_failure, [])
+    → data_set_read syntax message.octets ≡ r → result_ok r ≡ None → set_outcome records message syntax ≡ (processing_failure, [])
 unfolding set_outcome
 set_not_read records message syntax (Ok d) h same none = cc
 set_not_read records message syntax (Err fault) h same none = rw (h, same) refl
@@ -117,11 +117,11 @@ module _ (records : List Record) (message : Message) (syntax : Syntax) where
   unfolding set_outcome
   set_over h = rw h refl
 
-  pub set_unread : is_over other_limit message ≡ false → result_ok (reading syntax message.octets) ≡ None
+  pub set_unread : is_over other_limit message ≡ false → result_ok (data_set_read syntax message.octets) ≡ None
       → set_outcome records message syntax ≡ (processing_failure, [])
-  set_unread h none = set_not_read records message syntax (reading syntax message.octets) h refl none
+  set_unread h none = set_not_read records message syntax (data_set_read syntax message.octets) h refl none
 
-  pub set_handed_on : (d : ElementList) → is_over other_limit message ≡ false → reading syntax message.octets ≡ Ok d
+  pub set_handed_on : (d : ElementList) → is_over other_limit message ≡ false → data_set_read syntax message.octets ≡ Ok d
       → set_outcome records message syntax ≡ step_changed message.command.sop_instance d (record_at Step message.command.sop_instance records)
   unfolding set_outcome
   set_handed_on d h read = rw (h, read) refl

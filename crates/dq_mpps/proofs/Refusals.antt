@@ -5,21 +5,21 @@ use Rattle.dq_dataset.specs.Tree.{no_elements}
 use Rattle.dq_dimse.specs.Receiving.{is_over}
 use Rattle.dq_value.specs.Uid.{is_uid}
 use Rattle.dq_dataset.specs.declared.header.Syntax.{Syntax}
-use Rattle.dq_dataset.specs.Reading.{reading}
+use Rattle.dq_dataset.specs.DataSetReader.{data_set_read}
 use Rattle.dq_dataset.specs.Editing.{merged_data_set}
 use Rattle.dq_dimse.specs.Received.{Message}
 use Rattle.dq_dimse.specs.Statuses.{success, processing_failure, invalid_sop_instance, duplicate_sop_instance, no_such_sop_instance, invalid_attribute_value, resource_limitation}
 use Rattle.dq_config.specs.Limits.{Limits}
 use Rattle.dq_tables.specs.declared.row.Kind.TheVariants.{Step}
 use Rattle.dq_tables.specs.Rows.{Record, Edit, Put}
-use Rattle.dq_tables.specs.Finding.{record_at, records_of}
-use Rattle.dq_tables.specs.Serving.{first_refusal, refusal_or}
-use Rattle.dq_tables.proofs.Refusing.{stopped}
+use Rattle.dq_tables.specs.Lookups.{record_at, records_of}
+use Rattle.dq_tables.specs.ServiceEffects.{first_refusal, refusal_or}
+use Rattle.dq_tables.proofs.Refusals.{stopped}
 use Rattle.dq_dimse.specs.Limits.{other_limit}
 use Rattle.dq_mpps.specs.Steps.{step_record}
-use Rattle.dq_mpps.specs.Creating.{creation_refusals, creation, create_outcome}
-use Rattle.dq_mpps.specs.Creating as creating
-use Rattle.dq_mpps.specs.Changing.{kept_data_set, is_ended, changes_fixed, sends_unknown_status, is_too_long, change_refusals, set_outcome}
+use Rattle.dq_mpps.specs.NCreate.{creation_refusals, creation, create_outcome}
+use Rattle.dq_mpps.specs.NCreate as creating
+use Rattle.dq_mpps.specs.NSet.{kept_data_set, is_ended, changes_fixed, sends_unknown_status, is_too_long, change_refusals, set_outcome}
 
 refusal_edits_nothing : (refusal : Option ℕ) (edits : List Edit) → (refusal_or refusal (success, edits)).0 ≢ success
     → (refusal_or refusal (success, edits)).1 ≡ []
@@ -30,7 +30,7 @@ pub created_unless : (limits : Limits) (records : List Record) (message : Messag
     → (create_outcome limits records message syntax).1 ≡ []
 unfolding create_outcome
 created_unless limits records message syntax h =
-    let data_set = reading syntax message.octets in
+    let data_set = data_set_read syntax message.octets in
     let sent = result_unwrap_or data_set no_elements in
     refusal_edits_nothing (first_refusal (creation_refusals limits records message data_set)) (creation records message.command.sop_instance sent) h
 
@@ -38,7 +38,7 @@ pub changed_unless : (records : List Record) (message : Message) (syntax : Synta
     → (set_outcome records message syntax).1 ≡ []
 unfolding set_outcome
 changed_unless records message syntax h =
-    let data_set = reading syntax message.octets in
+    let data_set = data_set_read syntax message.octets in
     let sent = result_unwrap_or data_set no_elements in
     let kept = kept_data_set (record_at Step message.command.sop_instance records) in
     refusal_edits_nothing (first_refusal (change_refusals records message data_set))
@@ -48,7 +48,7 @@ pub created_again : (limits : Limits) (records : List Record) (message : Message
     → record_at Step message.command.sop_instance records ≡ Some kept → (create_outcome limits records message syntax).1 ≡ []
 unfolding create_outcome
 created_again limits records message syntax kept found =
-    let data_set = reading syntax message.octets in
+    let data_set = data_set_read syntax message.octets in
     let sent = result_unwrap_or data_set no_elements in
     let uid = message.command.sop_instance in
     let before =
@@ -61,7 +61,7 @@ pub ended_stays : (records : List Record) (message : Message) (syntax : Syntax) 
     → (set_outcome records message syntax).1 ≡ []
 unfolding set_outcome
 ended_stays records message syntax kept found ended =
-    let data_set = reading syntax message.octets in
+    let data_set = data_set_read syntax message.octets in
     let sent = result_unwrap_or data_set no_elements in
     let step = kept_data_set (Some kept) in
     let before = (is_over other_limit message, resource_limitation) ∷ (is_err data_set, processing_failure) ∷ (false, no_such_sop_instance) ∷ [] in

@@ -8,7 +8,7 @@ use Rattle.dq_dataset.specs.declared.fault.ReadFault.{ReadFault}
 use Rattle.dq_dataset.specs.declared.header.Syntax.{Syntax}
 use Rattle.dq_dataset.specs.declared.header.Syntax.TheVariants.{Explicit}
 use Rattle.dq_dataset.specs.Tree.{ElementList}
-use Rattle.dq_dataset.specs.Reading.{reading}
+use Rattle.dq_dataset.specs.DataSetReader.{data_set_read}
 use Rattle.dq_dataset.specs.Canonical.{canonical, HasLengths}
 use Rattle.dq_dataset.specs.Editing.{merged_data_set}
 use Rattle.dq_dataset.specs.Sieve.{is_over_limit}
@@ -22,24 +22,24 @@ use Rattle.dq_tables.specs.declared.change.Change.TheVariants.{StepAdded, StepCh
 use Rattle.dq_tables.specs.declared.row.Kind.TheVariants.{Entry, Step}
 use Rattle.dq_tables.specs.declared.row.Row.{Row}
 use Rattle.dq_tables.specs.Rows.{Record, Edit, Put, Start, IsRising, of, by, after, after_edit, after_edits, record_place, record_of, row_of, rows_before, rows_past, within}
-use Rattle.dq_tables.specs.Finding.{record_at, row_at}
-use Rattle.dq_tables.specs.Serving.{first_refusal, refusal_or}
+use Rattle.dq_tables.specs.Lookups.{record_at, row_at}
+use Rattle.dq_tables.specs.ServiceEffects.{first_refusal, refusal_or}
 use Rattle.dq_tables.specs.Sound.{IsSound}
-use Rattle.dq_tables.specs.Starting.{entries_named}
+use Rattle.dq_tables.specs.StartedEntries.{entries_named}
 use Rattle.dq_tables.proofs.Lens.{rising_edit}
 use Rattle.dq_tables.proofs.Order.{each_appended, each_filtered, is_before, is_past}
-use Rattle.dq_tables.proofs.Rising.{each_among}
+use Rattle.dq_tables.proofs.RisingLists.{each_among}
 use Rattle.dq_tables.proofs.Members.{find_among}
-use Rattle.dq_tables.proofs.Seen.{found_own}
+use Rattle.dq_tables.proofs.OwnRows.{found_own}
 use Rattle.dq_tables.proofs.Soundness.{change_sound}
-use Rattle.dq_tables.proofs.Started.{started, start_keeps}
+use Rattle.dq_tables.proofs.StartedEntries.{started, start_keeps}
 use Rattle.dq_dimse.specs.Limits.{other_limit}
 use Rattle.dq_mpps.specs.Steps.{step_record}
-use Rattle.dq_mpps.specs.Creating as creating
-use Rattle.dq_mpps.specs.Creating.{create_outcome}
-use Rattle.dq_mpps.specs.Changing.{kept_data_set, step_limit, is_too_long, set_attribute_refusals, set_outcome}
+use Rattle.dq_mpps.specs.NCreate as creating
+use Rattle.dq_mpps.specs.NCreate.{create_outcome}
+use Rattle.dq_mpps.specs.NSet.{kept_data_set, step_limit, is_too_long, set_attribute_refusals, set_outcome}
 use Rattle.dq_mpps.specs.Views.{step_created, step_changed}
-use Rattle.dq_mpps.proofs.Fitting.{new_step_fits, changed_fits}
+use Rattle.dq_mpps.proofs.FittingChanges.{new_step_fits, changed_fits}
 use Rattle.dq_mpps.proofs.Outcomes.{create_over, create_unread, create_unnamed, create_handed_on, refused_by, too_long, changed_to, set_over, set_unread, set_handed_on}
 
 -- ---- what is short
@@ -105,38 +105,38 @@ module _ (P : List Row → Type 0) (h : List ℕ) (rows : List Row) (holds : P r
   unless_refused None done kept = kept
 
   module _ (limits : Limits)
-      (keeps : (d : ElementList) → is_over other_limit message ≡ false → reading syntax message.octets ≡ Ok d → is_uid uid ≡ true
+      (keeps : (d : ElementList) → is_over other_limit message ≡ false → data_set_read syntax message.octets ≡ Ok d → is_uid uid ≡ true
       → record_at Step uid (of h rows) ≡ None → P (after (by h (creating.creation (of h rows) uid d)) rows)) where
-    new_stays : (d : ElementList) → is_over other_limit message ≡ false → reading syntax message.octets ≡ Ok d → is_uid uid ≡ true
+    new_stays : (d : ElementList) → is_over other_limit message ≡ false → data_set_read syntax message.octets ≡ Ok d → is_uid uid ≡ true
         → (kept : Option Record) → record_at Step uid (of h rows) ≡ kept → Stays (step_created limits uid d (of h rows))
     new_stays d short read named (Some r) there = rw there holds
     new_stays d short read named None free =
         unless_refused (first_refusal (creating.create_refusals limits (of h rows) uid d)) (0, creating.creation (of h rows) uid d)
         (keeps d short read named free)
 
-    named_stays : (d : ElementList) → is_over other_limit message ≡ false → reading syntax message.octets ≡ Ok d
+    named_stays : (d : ElementList) → is_over other_limit message ≡ false → data_set_read syntax message.octets ≡ Ok d
         → (named : Bool) → is_uid uid ≡ named → Stays (create_outcome limits (of h rows) message syntax)
     named_stays d short read false other = refused_stays _ _ (create_unnamed limits (of h rows) message syntax d short read other)
     named_stays d short read true named =
         subst Stays (sym (create_handed_on limits (of h rows) message syntax d short read named))
         (new_stays d short read named (record_at Step uid (of h rows)) refl)
 
-    created_of : (r : Result ElementList ReadFault) → is_over other_limit message ≡ false → reading syntax message.octets ≡ r
+    created_of : (r : Result ElementList ReadFault) → is_over other_limit message ≡ false → data_set_read syntax message.octets ≡ r
         → Stays (create_outcome limits (of h rows) message syntax)
     created_of (Ok d) short read = named_stays d short read (is_uid uid) refl
     created_of (Err fault) short read = refused_stays _ _ (create_unread limits (of h rows) message syntax short (rw read refl))
 
     created_by : (long : Bool) → is_over other_limit message ≡ long → Stays (create_outcome limits (of h rows) message syntax)
     created_by true long = refused_stays _ _ (create_over limits (of h rows) message syntax long)
-    created_by false short = created_of (reading syntax message.octets) short refl
+    created_by false short = created_of (data_set_read syntax message.octets) short refl
 
     pub created_stays : P (after (by h (create_outcome limits (of h rows) message syntax).1) rows)
     created_stays = created_by (is_over other_limit message) refl
 
-  module _ (keeps : (d : ElementList) → reading syntax message.octets ≡ Ok d → (r : Record) → record_at Step uid (of h rows) ≡ Some r
+  module _ (keeps : (d : ElementList) → data_set_read syntax message.octets ≡ Ok d → (r : Record) → record_at Step uid (of h rows) ≡ Some r
       → is_too_long (merged_data_set (kept_data_set (Some r)) d) ≡ false
       → P (after (by h (Put (step_record uid (merged_data_set (kept_data_set (Some r)) d)) ∷ [])) rows)) where
-    short_stays : (d : ElementList) → reading syntax message.octets ≡ Ok d → (r : Record) → record_at Step uid (of h rows) ≡ Some r
+    short_stays : (d : ElementList) → data_set_read syntax message.octets ≡ Ok d → (r : Record) → record_at Step uid (of h rows) ≡ Some r
         → first_refusal (set_attribute_refusals (kept_data_set (Some r)) d) ≡ None
         → (long : Bool) → is_too_long (merged_data_set (kept_data_set (Some r)) d) ≡ long → Stays (step_changed uid d (Some r))
     short_stays d read r there clear true long = refused_stays _ _ (too_long uid d r (kept_data_set (Some r)) refl clear long)
@@ -145,17 +145,17 @@ module _ (P : List Row → Type 0) (h : List ℕ) (rows : List Row) (holds : P r
         subst Stays (sym (changed_to uid d r (kept_data_set (Some r)) refl clear short (canonical Explicit step) refl))
         (keeps d read r there short)
 
-    clear_stays : (d : ElementList) → reading syntax message.octets ≡ Ok d → (r : Record) → record_at Step uid (of h rows) ≡ Some r
+    clear_stays : (d : ElementList) → data_set_read syntax message.octets ≡ Ok d → (r : Record) → record_at Step uid (of h rows) ≡ Some r
         → (refusal : Option ℕ) → first_refusal (set_attribute_refusals (kept_data_set (Some r)) d) ≡ refusal → Stays (step_changed uid d (Some r))
     clear_stays d read r there (Some status) refused = refused_stays _ status (refused_by uid d r (kept_data_set (Some r)) refl status refused)
     clear_stays d read r there None clear = short_stays d read r there clear (is_too_long (merged_data_set (kept_data_set (Some r)) d)) refl
 
-    step_stays : (d : ElementList) → reading syntax message.octets ≡ Ok d
+    step_stays : (d : ElementList) → data_set_read syntax message.octets ≡ Ok d
         → (kept : Option Record) → record_at Step uid (of h rows) ≡ kept → Stays (step_changed uid d kept)
     step_stays d read None none = holds
     step_stays d read (Some r) there = clear_stays d read r there (first_refusal (set_attribute_refusals (kept_data_set (Some r)) d)) refl
 
-    changed_of : (r : Result ElementList ReadFault) → is_over other_limit message ≡ false → reading syntax message.octets ≡ r
+    changed_of : (r : Result ElementList ReadFault) → is_over other_limit message ≡ false → data_set_read syntax message.octets ≡ r
         → Stays (set_outcome (of h rows) message syntax)
     changed_of (Ok d) short read =
         subst Stays (sym (set_handed_on (of h rows) message syntax d short read)) (step_stays d read (record_at Step uid (of h rows)) refl)
@@ -163,14 +163,14 @@ module _ (P : List Row → Type 0) (h : List ℕ) (rows : List Row) (holds : P r
 
     changed_by : (long : Bool) → is_over other_limit message ≡ long → Stays (set_outcome (of h rows) message syntax)
     changed_by true long = refused_stays _ _ (set_over (of h rows) message syntax long)
-    changed_by false short = changed_of (reading syntax message.octets) short refl
+    changed_by false short = changed_of (data_set_read syntax message.octets) short refl
 
     pub changed_stays : P (after (by h (set_outcome (of h rows) message syntax).1) rows)
     changed_stays = changed_by (is_over other_limit message) refl
 
 -- ---- that they are sound
 
-module _ (h : List ℕ) (rows : List Row) (sound : IsSound rows) (uid : List ℕ) (d : ElementList) (back : reading Explicit (canonical Explicit d) ≡ Ok d) where
+module _ (h : List ℕ) (rows : List Row) (sound : IsSound rows) (uid : List ℕ) (d : ElementList) (back : data_set_read Explicit (canonical Explicit d) ≡ Ok d) where
   pub new_sound : is_uid uid ≡ true → record_at Step uid (of h rows) ≡ None → IsSound (after (by h (creating.creation (of h rows) uid d)) rows)
   new_sound named free =
       let keys = entries_named (of h rows) d in

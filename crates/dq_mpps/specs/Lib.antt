@@ -1,7 +1,7 @@
 pub mod Attributes
-pub mod Changed
-pub mod Changing
-pub mod Created
-pub mod Creating
+pub mod ChangedStep
+pub mod NSet
+pub mod CreatedStep
+pub mod NCreate
 pub mod Steps
 pub mod Views

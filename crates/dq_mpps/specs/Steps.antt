@@ -1,4 +1,4 @@
--- What creation and change of a performed procedure step share (PS3.4 section F.7).
+-- Parts that the creation and the change of a performed procedure step share (PS3.4 section F.7).
 use Rattle.std.specs.Prelude.{ℕ, Bool, false, List, [], codes}
 use Rattle.dq_vr.specs.Tags.{performed_procedure_step_status}
 use Rattle.dq_dataset.specs.declared.header.Syntax.TheVariants.{Explicit}
@@ -13,11 +13,11 @@ use Rattle.dq_tables.specs.Sound.{is_value}
 abbrev pub in_progress : List ℕ
 in_progress = codes "IN PROGRESS"
 
-abbrev pub completed : List ℕ
-completed = codes "COMPLETED"
+abbrev pub completed_status : List ℕ
+completed_status = codes "COMPLETED"
 
-abbrev pub discontinued : List ℕ
-discontinued = codes "DISCONTINUED"
+abbrev pub discontinued_status : List ℕ
+discontinued_status = codes "DISCONTINUED"
 
 -- the status, as the only value of its element
 unfoldable pub has_status : List ℕ → ElementList → Bool

@@ -1,4 +1,4 @@
--- What is left to answer once a data set has been read, and the entries that a step names.
+-- The outcome left once a data set has been read, and the entries that a step names.
 use Rattle.std.specs.Prelude.{ℕ, ◌≡◌, List, [], ◌∷◌, filter, Option, is_some}
 use Rattle.std.specs.List.{list_any}
 use Rattle.std.specs.List.Sorted.{IsStrictlySortedBy}
@@ -9,12 +9,12 @@ use Rattle.dq_dimse.specs.Statuses.{success}
 use Rattle.dq_config.specs.Limits.{Limits}
 use Rattle.dq_tables.specs.declared.row.Kind.TheVariants.{Entry}
 use Rattle.dq_tables.specs.Rows.{Record, Edit, Put, octet_order}
-use Rattle.dq_tables.specs.Finding.{record_at}
-use Rattle.dq_tables.specs.Serving.{first_refusal, refusal_or}
-use Rattle.dq_tables.specs.Starting.{names}
+use Rattle.dq_tables.specs.Lookups.{record_at}
+use Rattle.dq_tables.specs.ServiceEffects.{first_refusal, refusal_or}
+use Rattle.dq_tables.specs.StartedEntries.{names}
 use Rattle.dq_mpps.specs.Steps.{step_record}
-use Rattle.dq_mpps.specs.Creating as creating
-use Rattle.dq_mpps.specs.Changing.{kept_data_set, set_refusals}
+use Rattle.dq_mpps.specs.NCreate as creating
+use Rattle.dq_mpps.specs.NSet.{kept_data_set, set_refusals}
 
 -- of an N-CREATE with a UID
 abbrev pub step_created : Limits → List ℕ → ElementList → List Record → ℕ × List Edit

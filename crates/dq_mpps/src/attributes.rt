@@ -3,8 +3,8 @@ ghost use Rattle.std.specs.Prelude.{◌≡◌};
 ghost use Rattle.std.specs.Option.{option_copied};
 ghost use Rattle.dq_dataset.specs.Editing.{is_listed};
 ghost use Rattle.dq_mpps.specs.Attributes.{is_fixed};
-ghost use Rattle.dq_mpps.specs.Creating.{has_value, has_attributes, has_attribute_values};
-ghost use Rattle.dq_mpps.specs.Changing.{changes_fixed};
+ghost use Rattle.dq_mpps.specs.NCreate.{has_value, has_attributes, has_attribute_values};
+ghost use Rattle.dq_mpps.specs.NSet.{changes_fixed};
 
 use dq_dataset::{DataSet, Element, Value};
 use dq_value::values;
@@ -35,7 +35,7 @@ const REQUIRED: [Tag; 7] = [
 const PATIENT_GROUP: u16 = 0x0010;
 
 /// Whether the element has a value, or as a sequence an item.
-#[tactic(auto, unfolding(crate::specs::Creating::has_value))]
+#[tactic(auto, unfolding(crate::specs::NCreate::has_value))]
 fn has_value(element: Option<&Element>) -> bool
     ensures { result ≡ has_value (option_copied element.entry) }
 {
@@ -49,7 +49,7 @@ fn has_value(element: Option<&Element>) -> bool
 }
 
 /// Whether a new step has each attribute that is asked for.
-#[tactic(auto, unfolding(crate::specs::Creating::has_attributes))]
+#[tactic(auto, unfolding(crate::specs::NCreate::has_attributes))]
 pub(crate) fn has_attributes(step: &DataSet) -> bool
     ensures { result ≡ has_attributes step.now }
 {
@@ -57,7 +57,7 @@ pub(crate) fn has_attributes(step: &DataSet) -> bool
 }
 
 /// Whether a new step has a value of each attribute that is asked for.
-#[tactic(auto, unfolding(crate::specs::Creating::has_attribute_values))]
+#[tactic(auto, unfolding(crate::specs::NCreate::has_attribute_values))]
 pub(crate) fn has_attribute_values(step: &DataSet) -> bool
     ensures { result ≡ has_attribute_values step.now }
 {
@@ -77,7 +77,7 @@ fn is_listed(tags: &[Tag], element: &Element) -> bool
 }
 
 /// Whether a fixed attribute is sent that is not as it is kept.
-#[tactic(auto, unfolding(crate::specs::Changing::changes_fixed))]
+#[tactic(auto, unfolding(crate::specs::NSet::changes_fixed))]
 pub(crate) fn changes_fixed(kept: &DataSet, sent: &DataSet) -> bool
     ensures { result ≡ changes_fixed kept.now sent.now }
 {

@@ -1,4 +1,5 @@
-//! What follows from the definitions. Each function's contract is a law; its body changes nothing.
+//! Laws that follow from the definitions. Each function's contract is a law; its body changes
+//! nothing.
 ghost use Rattle.std.specs.Prelude.{◌≡◌, ◌≢◌, ◌⊎◌, ℕ, Bool, [], List, Some, true, false};
 ghost use Rattle.std.specs.List.{AllByRecursion};
 ghost use Rattle.std.specs.Option.{option_or};
@@ -8,7 +9,7 @@ ghost use Rattle.dq_vr.specs.declared.Tag.{Tag};
 ghost use Rattle.dq_dataset.specs.declared.header.Syntax.{Syntax};
 ghost use Rattle.dq_dataset.specs.declared.data_set.Element.{Element};
 ghost use Rattle.dq_dataset.specs.Tree.{ElementList, no_elements};
-ghost use Rattle.dq_dataset.specs.Reading.{reading};
+ghost use Rattle.dq_dataset.specs.DataSetReader.{data_set_read};
 ghost use Rattle.dq_dataset.specs.Facts.{IsDataSet};
 ghost use Rattle.dq_dataset.specs.Editing.{merged_data_set};
 ghost use Rattle.dq_dataset.specs.Values.{element_at};
@@ -18,14 +19,14 @@ ghost use Rattle.dq_config.specs.Limits.{Limits};
 ghost use Rattle.dq_tables.specs.declared.row.Kind.TheVariants.{Entry, Step};
 ghost use Rattle.dq_tables.specs.declared.row.Row.{Row};
 ghost use Rattle.dq_tables.specs.Rows.{Record, Edit, IsRising, of, by, after, records_after_edits};
-ghost use Rattle.dq_tables.specs.Finding.{record_at};
+ghost use Rattle.dq_tables.specs.Lookups.{record_at};
 ghost use Rattle.dq_tables.specs.Records.{data_set_of};
 ghost use Rattle.dq_tables.specs.Sound.{IsSound};
 ghost use Rattle.dq_mpps.specs.Attributes.{is_fixed};
-ghost use Rattle.dq_mpps.specs.Creating.{create_outcome};
-ghost use Rattle.dq_mpps.specs.Created.{IsCreated};
-ghost use Rattle.dq_mpps.specs.Changed.{step_at, IsStepChanged};
-ghost use Rattle.dq_mpps.specs.Changing.{kept_data_set, is_ended, is_short_step, changes_fixed, set_outcome};
+ghost use Rattle.dq_mpps.specs.NCreate.{create_outcome};
+ghost use Rattle.dq_mpps.specs.CreatedStep.{IsCreated};
+ghost use Rattle.dq_mpps.specs.ChangedStep.{step_at, IsStepChanged};
+ghost use Rattle.dq_mpps.specs.NSet.{kept_data_set, is_ended, is_short_step, changes_fixed, set_outcome};
 
 use dq_dataset::laws::{editing_law, spelling_law, written_law};
 
@@ -81,7 +82,7 @@ pub fn changed_steps_hold_what_was_sent()
         → (set_outcome records message syntax).0 ≡ success
         → IsStepChanged records (records_after_edits (set_outcome records message syntax).1 records)
         message.command.sop_instance
-        (result_unwrap_or (reading syntax message.octets) no_elements) }
+        (result_unwrap_or (data_set_read syntax message.octets) no_elements) }
     ensures refused { (records : List Record) (message : Message) (syntax : Syntax)
         → (set_outcome records message syntax).0 ≢ success
         → records_after_edits (set_outcome records message syntax).1 records ≡ records }
@@ -91,7 +92,7 @@ pub fn changed_steps_hold_what_was_sent()
     written_law();
 }
 
-/// What other institutions keep changes no status and no edit.
+/// Other institutions' records do not affect any status or edit.
 #[tactic(auto, using(crate::proofs::Others::created_alike, crate::proofs::Others::changed_alike))]
 pub fn other_institutions_change_no_status()
     ensures created { (own other : List ℕ) → other ≢ own → (edits : List Edit) (rows : List Row)
@@ -111,7 +112,7 @@ pub fn named_entries_are_started()
         → (create_outcome limits records message syntax).0 ≡ success
         → IsCreated records (records_after_edits (create_outcome limits records message syntax).1 records)
         message.command.sop_instance
-        (result_unwrap_or (reading syntax message.octets) no_elements) }
+        (result_unwrap_or (data_set_read syntax message.octets) no_elements) }
 {}
 
 /// Sound rows stay sound, whatever octets a step is created from, and where the rows hold data sets
@@ -149,8 +150,8 @@ pub fn rows_hold_data_sets()
     written_law();
 }
 
-/// What holds of each row, and of any entry and any step, holds of each row afterwards: steps that
-/// are created and changed leave the rows of studies, series and images.
+/// A property of each row, and of any entry and any step, holds of each row afterwards: steps
+/// that are created and changed leave the rows of studies, series and images.
 pub fn rows_of_other_kinds_stay()
     ensures created { (holds : Row → Bool)
         → ((row : Row) → (row.kind ≡ Entry) ⊎ (row.kind ≡ Step) → holds row ≡ true)

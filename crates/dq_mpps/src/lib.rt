@@ -2,11 +2,11 @@
 #![tactic(auto)]
 
 mod attributes;
-mod changing;
-mod creating;
 pub mod laws;
-mod naming;
+mod n_create;
+mod n_set;
+mod named_entries;
 mod steps;
 
-pub use changing::set;
-pub use creating::create;
+pub use n_create::create;
+pub use n_set::set;

@@ -1,8 +1,8 @@
-//! What the creation and the change of a step share.
+//! Parts that the creation and the change of a step share.
 ghost use Rattle.std.specs.Prelude.{◌≡◌, IfOk};
 ghost use Rattle.dq_tables.specs.Rows.{row_of};
 ghost use Rattle.dq_mpps.specs.Steps.{has_status, spelled_step, in_progress};
-ghost use Rattle.dq_mpps.specs.Changing.{is_ended, sends_unknown_status};
+ghost use Rattle.dq_mpps.specs.NSet.{is_ended, sends_unknown_status};
 
 use dq_dataset::DataSet;
 use dq_tables::{Kind, RecordKeys, Row};
@@ -12,7 +12,7 @@ use std::alloc::{AllocError, Global};
 /// The data set of a message is at most so many octets.
 pub(crate) const DATA_SET_LIMIT: usize = 0x10_0000;
 
-/// What an N-CREATE or an N-SET sends: the SOP Instance UID of a step, and a data set.
+/// The parts of an N-CREATE or an N-SET request: the SOP Instance UID of a step, and a data set.
 #[derive(Clone, Copy)]
 pub(crate) struct Sent<'a> {
     pub(crate) uid: &'a [u8],
@@ -38,7 +38,7 @@ pub(crate) fn is_in_progress(step: &DataSet) -> bool
 }
 
 /// Whether a step is completed or discontinued.
-#[tactic(auto, unfolding(crate::specs::Changing::is_ended))]
+#[tactic(auto, unfolding(crate::specs::NSet::is_ended))]
 pub(crate) fn is_ended(step: &DataSet) -> bool
     ensures { result ≡ is_ended step.now }
 {
@@ -46,7 +46,7 @@ pub(crate) fn is_ended(step: &DataSet) -> bool
 }
 
 /// Whether a status is sent that no step has.
-#[tactic(auto, unfolding(crate::specs::Changing::sends_unknown_status))]
+#[tactic(auto, unfolding(crate::specs::NSet::sends_unknown_status))]
 pub(crate) fn sends_unknown_status(sent: &DataSet) -> bool
     ensures { result ≡ sends_unknown_status sent.now }
 {

@@ -5,7 +5,7 @@ use Rattle.std.proofs.lemmas.Bool.{and_parts, and_from, leb-true, le-leb}
 use Rattle.dq_pdu.specs.declared.pdu.Pdu.TheVariants.{Accept as accept_pdu}
 use Rattle.dq_pdu.specs.declared.pdu.Accept.{Accept}
 use Rattle.dq_pdu.specs.declared.pdu.AnsweredContext.{AnsweredContext}
-use Rattle.dq_pdu.specs.Reading.{is_odd}
+use Rattle.dq_pdu.specs.PduReader.{is_odd}
 use Rattle.dq_pdu.specs.Writing.{answered_context_octets, application_context, accept_information, fixed_fields, accept, is_bare, is_uid_name, is_answerable, IsWritable}
 use Rattle.dq_pdu.specs.Acceptances.{is_identifier_or_none, has_identifier, IsAcceptance}
 use Rattle.dq_pdu.proofs.ContextIds.{few_ids}

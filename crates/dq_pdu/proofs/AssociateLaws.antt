@@ -5,7 +5,7 @@ use Rattle.std.specs.Int.{w16, from_be_bytes}
 use Rattle.std.proofs.lemmas.Bool.{leb-true, le-leb}
 use Rattle.dq_list.specs.Readers.{◌>>=◌, only_if}
 use Rattle.dq_list.proofs.Readers.{bind_some, provided_some}
-use Rattle.dq_pdu.specs.declared.reading.Item.{Item}
+use Rattle.dq_pdu.specs.declared.pdu_reader.Item.{Item}
 use Rattle.dq_pdu.specs.declared.bodies.Associate.{Associate}
 use Rattle.dq_pdu.specs.declared.pdu.ProposedContext.{ProposedContext}
 use Rattle.dq_pdu.specs.declared.pdu.AnsweredContext.{AnsweredContext}
@@ -13,7 +13,7 @@ use Rattle.dq_pdu.specs.declared.pdu.Request.{Request}
 use Rattle.dq_pdu.specs.declared.pdu.Accept.{Accept}
 use Rattle.dq_pdu.specs.Octets.{parts_of, each_given, bodies, at_most_one, without_uid_padding, are_distinct}
 use Rattle.dq_pdu.specs.Spelling.{IsProposed, IsAnsweredContext, AreFields, IsUserInformation, IsAssociate, IsRequest, IsAccept, request_fields, accept_fields}
-use Rattle.dq_pdu.specs.Reading.{item_at, proposed_of, answered_of, user_information_of, fields_of, associate_of, request_with, accept_with, request_of, accept_of}
+use Rattle.dq_pdu.specs.PduReader.{item_at, proposed_of, answered_of, user_information_of, fields_of, associate_of, request_with, accept_with, request_of, accept_of}
 use Rattle.dq_pdu.proofs.PartLaws.{some_is}
 use Rattle.dq_pdu.proofs.ItemLaws.{items_fill}
 use Rattle.dq_pdu.proofs.ContextLaws.{each_spelled, each_read, proposed_spelled, proposed_read, answered_spelled, answered_read, user_spelled, user_read}

@@ -4,7 +4,7 @@ use Rattle.std.specs.Prelude.{not}
 use Rattle.std.specs.List.{list_all}
 use Rattle.std.proofs.lemmas.Bool.{and_parts, or_parts, eqb-true, eqb-false, ltb-true, not-true, cases_Bool}
 use Rattle.dq_pdu.specs.Octets.{is_number_among, are_distinct}
-use Rattle.dq_pdu.specs.Reading.{is_odd}
+use Rattle.dq_pdu.specs.PduReader.{is_odd}
 use Rattle.dq_pdu.specs.Acceptances.{AreContextIds}
 
 -- odd numbers below a bound

@@ -2,7 +2,7 @@
 use Rattle.std.proofs.Common.{◌≡◌, ◌≢◌, ℕ, ◌%◌, true, eqb, leb, List, [], ◌∷◌, ◌++◌, length, map, Option, Some, None, refl, sym, ap, subst, ◌∙◌, arith}
 use Rattle.std.specs.Prelude.{◌&&◌, not, option_map}
 use Rattle.std.proofs.lemmas.Bool.{le-leb, eqb-true, eq-eqb, and_parts}
-use Rattle.dq_pdu.specs.declared.reading.Item.{Item}
+use Rattle.dq_pdu.specs.declared.pdu_reader.Item.{Item}
 use Rattle.dq_pdu.specs.declared.pdu.ProposedContext.{ProposedContext}
 use Rattle.dq_pdu.specs.declared.pdu.AnsweredContext.{AnsweredContext}
 use Rattle.dq_list.specs.Lengths.{is_empty}
@@ -10,7 +10,7 @@ use Rattle.dq_list.specs.Readers.{◌>>=◌, only_if}
 use Rattle.dq_list.proofs.Readers.{bind_some, provided_some}
 use Rattle.dq_pdu.specs.Octets.{Pairwise, parts_of, each_given, bodies, at_most_one, exactly_one, without_uid_padding}
 use Rattle.dq_pdu.specs.Spelling.{IsProposed, IsAnsweredContext, IsMaximumLength, IsUserInformation}
-use Rattle.dq_pdu.specs.Reading.{item_at, proposed_of, answered_of, maximum_in, user_information_of}
+use Rattle.dq_pdu.specs.PduReader.{item_at, proposed_of, answered_of, maximum_in, user_information_of}
 use Rattle.dq_pdu.proofs.PartLaws.{some_is}
 use Rattle.dq_pdu.proofs.ItemLaws.{items_fill, items_read}
 

@@ -2,10 +2,10 @@
 use Rattle.std.proofs.Common.{◌≡◌, ℕ, ◌+◌, ◌≤◌, List, ◌++◌, length, take, drop, Some, refl, sym, ap, ◌∙◌, append_assoc, arith, length-append}
 use Rattle.std.specs.Int.{w16, from_be_bytes}
 use Rattle.std.proofs.lemmas.List.{take-append-drop, length-take-le, length-drop, drop-drop, take_at, drop_at}
-use Rattle.dq_pdu.specs.declared.reading.Item.{Item}
+use Rattle.dq_pdu.specs.declared.pdu_reader.Item.{Item}
 use Rattle.dq_pdu.specs.Octets.{Fills, parts_of}
 use Rattle.dq_pdu.specs.Spelling.{IsItem, AreFields}
-use Rattle.dq_pdu.specs.Reading.{item_at}
+use Rattle.dq_pdu.specs.PduReader.{item_at}
 use Rattle.dq_pdu.proofs.ItemLaws.{items_read}
 
 -- one more field at a place

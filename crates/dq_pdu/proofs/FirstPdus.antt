@@ -3,12 +3,12 @@ use Rattle.std.proofs.Common.{◌≡◌, ℕ, ◌+◌, ◌<◌, ◌≤◌, Bool,
 use Rattle.std.specs.Int.{w32, from_be_bytes}
 use Rattle.std.proofs.lemmas.Bool.{cases_lt, ltb-true, ltb-false, lt-ltb, le-ltb}
 use Rattle.std.proofs.lemmas.List.{get_or_append_left, take-append-le, drop-append-le}
-use Rattle.dq_pdu.specs.declared.reading.FirstPdu.{FirstPdu}
-use Rattle.dq_pdu.specs.declared.reading.FirstPdu.TheVariants.{Partial, Faulty, Whole}
+use Rattle.dq_pdu.specs.declared.pdu_reader.FirstPdu.{FirstPdu}
+use Rattle.dq_pdu.specs.declared.pdu_reader.FirstPdu.TheVariants.{Partial, Faulty, Whole}
 use Rattle.dq_pdu.specs.declared.fault.PduFault.{PduFault}
 use Rattle.dq_pdu.specs.declared.fault.PduFault.TheVariants.{Unrecognized, TooLong, Malformed}
 use Rattle.dq_pdu.specs.declared.pdu.Pdu.{Pdu}
-use Rattle.dq_pdu.specs.Reading.{first_pdu, pdu_of, is_unrecognized, body_length, whole_or_malformed}
+use Rattle.dq_pdu.specs.PduReader.{first_pdu, pdu_of, is_unrecognized, body_length, whole_or_malformed}
 use Rattle.dq_pdu.specs.Stream.{fault_at_front}
 
 -- the choice after the six octets

@@ -1,8 +1,8 @@
 -- What a reader passes on where another failed.
 use Rattle.std.proofs.Common.{◌≡◌, Option, None}
-use Rattle.dq_pdu.specs.declared.reading.ReadError.{ReadError}
-use Rattle.dq_pdu.specs.declared.reading.ReadError.TheVariants as errors
-use Rattle.dq_pdu.specs.Reading.{Fails}
+use Rattle.dq_pdu.specs.declared.pdu_reader.ReadError.{ReadError}
+use Rattle.dq_pdu.specs.declared.pdu_reader.ReadError.TheVariants as errors
+use Rattle.dq_pdu.specs.PduReader.{Fails}
 
 pub passes_on : {Y W : Type 0} (e : ReadError) (read : Option Y) (total : Option W) → (read ≡ None → total ≡ None) → Fails e read → Fails e total
 passes_on errors.Memory read total h given = tt

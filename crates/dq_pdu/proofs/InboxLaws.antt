@@ -2,11 +2,11 @@
 use Rattle.std.proofs.Common.{◌≡◌, ℕ, ◌+◌, ◌<◌, List, [], ◌∷◌, ◌++◌, length, Option, Some, None, refl, sym, ap, ◌∙◌, arith}
 use Rattle.std.proofs.lemmas.List.{append-nil}
 use Rattle.dq_pdu.specs.declared.fault.PduFault.{PduFault}
-use Rattle.dq_pdu.specs.declared.reading.FirstPdu.{FirstPdu}
-use Rattle.dq_pdu.specs.declared.reading.FirstPdu.TheVariants.{Partial, Faulty, Whole}
+use Rattle.dq_pdu.specs.declared.pdu_reader.FirstPdu.{FirstPdu}
+use Rattle.dq_pdu.specs.declared.pdu_reader.FirstPdu.TheVariants.{Partial, Faulty, Whole}
 use Rattle.dq_pdu.specs.declared.inbox.InboxState.{InboxState}
 use Rattle.dq_pdu.specs.declared.inbox.InboxState.TheVariants.{Reading, Stopped, Spent}
-use Rattle.dq_pdu.specs.Reading.{first_pdu}
+use Rattle.dq_pdu.specs.PduReader.{first_pdu}
 use Rattle.dq_pdu.specs.Stream.{pdus_in, with_list, fault_at_front}
 use Rattle.dq_pdu.specs.Holding.{held_at, inbox_holding, HoldsPart}
 use Rattle.dq_pdu.specs.Inboxes.{inbox_fault, inbox_octets}

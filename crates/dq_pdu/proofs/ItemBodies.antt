@@ -2,7 +2,7 @@
 use Rattle.std.proofs.Common.{◌≡◌, ℕ, ◌+◌, ◌<◌, List, [], ◌∷◌, ◌++◌, length, get_or, drop, Option, Some, refl, sym, ap, ◌∙◌, arith}
 use Rattle.std.proofs.lemmas.Bool.{eq-eqb, ne_eqb}
 use Rattle.std.proofs.lemmas.List.{drop_more}
-use Rattle.dq_pdu.specs.declared.reading.Item.{Item}
+use Rattle.dq_pdu.specs.declared.pdu_reader.Item.{Item}
 use Rattle.dq_list.specs.Readers.{◌>>=◌}
 use Rattle.dq_pdu.specs.Octets.{bodies, each_given}
 use Rattle.dq_pdu.proofs.Filling.{with_front, with_front-assoc}

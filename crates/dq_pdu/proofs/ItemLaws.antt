@@ -4,11 +4,11 @@ use Rattle.std.specs.Prelude.{◌||◌}
 use Rattle.std.specs.Int.{w16, w32, from_be_bytes}
 use Rattle.std.proofs.lemmas.Bool.{ltb-false, le-ltb, or_parts}
 use Rattle.std.proofs.lemmas.List.{take-append-drop, length-take-le, take_at, drop_at}
-use Rattle.dq_pdu.specs.declared.reading.Item.{Item}
+use Rattle.dq_pdu.specs.declared.pdu_reader.Item.{Item}
 use Rattle.dq_pdu.specs.declared.pdu.Pdv.{Pdv}
 use Rattle.dq_pdu.specs.Octets.{Fills, parts_of}
 use Rattle.dq_pdu.specs.Spelling.{IsItem, IsPdv}
-use Rattle.dq_pdu.specs.Reading.{item_at, pdv_at}
+use Rattle.dq_pdu.specs.PduReader.{item_at, pdv_at}
 use Rattle.dq_pdu.specs.Shrinking.{test_held, item_shrinks, pdv_shrinks}
 use Rattle.dq_pdu.proofs.PartLaws.{Sound, Complete, fills_from, parts_from, fills_once}
 

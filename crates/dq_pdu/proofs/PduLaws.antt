@@ -1,11 +1,11 @@
 -- The PDUs of a stream, one after the other, and of a stream that goes on.
 use Rattle.std.proofs.Common.{◌≡◌, ℕ, zero, suc, ◌+◌, ◌-◌, ◌<◌, ◌≤◌, List, [], ◌∷◌, ◌++◌, length, drop, Option, Some, None, refl, sym, ap, ◌∙◌, append_assoc, arith, length-drop}
 use Rattle.std.proofs.lemmas.List.{append-nil, drop-append-le, drop-drop}
-use Rattle.dq_pdu.specs.declared.reading.FirstPdu.{FirstPdu}
-use Rattle.dq_pdu.specs.declared.reading.FirstPdu.TheVariants.{Partial, Faulty, Whole}
+use Rattle.dq_pdu.specs.declared.pdu_reader.FirstPdu.{FirstPdu}
+use Rattle.dq_pdu.specs.declared.pdu_reader.FirstPdu.TheVariants.{Partial, Faulty, Whole}
 use Rattle.dq_pdu.specs.declared.fault.PduFault.{PduFault}
 use Rattle.dq_pdu.specs.declared.pdu.Pdu.{Pdu}
-use Rattle.dq_pdu.specs.Reading.{first_pdu}
+use Rattle.dq_pdu.specs.PduReader.{first_pdu}
 use Rattle.dq_pdu.specs.Stream.{Pdus, with_first, with_list, pdus_from, pdus_within, pdus_in, stream_read_on}
 use Rattle.dq_pdu.proofs.FirstPdus.{count_within, front-append}
 

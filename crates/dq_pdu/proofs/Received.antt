@@ -3,13 +3,13 @@ use Rattle.std.proofs.Common.{◌≡◌, ℕ, suc, ◌<◌, true, ltb, eqb, List
 use Rattle.std.specs.List.{list_all}
 use Rattle.std.proofs.lemmas.Bool.{and_from, eq-eqb, lt-ltb, cases_Bool}
 use Rattle.dq_list.specs.Octets.{AreOctets}
-use Rattle.dq_pdu.specs.declared.reading.Item.{Item}
+use Rattle.dq_pdu.specs.declared.pdu_reader.Item.{Item}
 use Rattle.dq_pdu.specs.declared.pdu.Pdu.TheVariants.{Request as request_pdu}
 use Rattle.dq_pdu.specs.declared.pdu.Request.{Request}
 use Rattle.dq_pdu.specs.declared.pdu.ProposedContext.{ProposedContext}
 use Rattle.dq_pdu.specs.Octets.{Fills, Pairwise, bodies}
 use Rattle.dq_pdu.specs.Spelling.{IsItem, IsProposed, SpellsPdu}
-use Rattle.dq_pdu.specs.Reading.{is_odd}
+use Rattle.dq_pdu.specs.PduReader.{is_odd}
 use Rattle.dq_pdu.specs.Acceptances.{IsReceived}
 
 -- the same, one by one

@@ -8,12 +8,12 @@ use Rattle.dq_pdu.specs.declared.pdu.Pdu.{Pdu}
 use Rattle.dq_pdu.specs.declared.pdu.Pdu.TheVariants.{Request as request_pdu, Accept as accept_pdu, Reject, PData, ReleaseRq, ReleaseRp, Abort}
 use Rattle.dq_pdu.specs.declared.pdu.Pdv.{Pdv}
 use Rattle.dq_pdu.specs.declared.pdu.Request.{Request}
-use Rattle.dq_pdu.specs.declared.reading.FirstPdu.TheVariants.{Whole}
+use Rattle.dq_pdu.specs.declared.pdu_reader.FirstPdu.TheVariants.{Whole}
 use Rattle.dq_pdu.specs.declared.pdu.Accept.{Accept}
 use Rattle.dq_list.proofs.Readers.{bind_some, provided_some}
 use Rattle.dq_pdu.specs.Octets.{parts_of}
 use Rattle.dq_pdu.specs.Spelling.{IsBody, SpellsPdu}
-use Rattle.dq_pdu.specs.Reading.{pdv_at, request_of, accept_of, data_pdu_of, if_short, pdu_of, first_pdu, body_length, is_unrecognized}
+use Rattle.dq_pdu.specs.PduReader.{pdv_at, request_of, accept_of, data_pdu_of, if_short, pdu_of, first_pdu, body_length, is_unrecognized}
 use Rattle.dq_pdu.proofs.PartLaws.{some_is}
 use Rattle.dq_pdu.proofs.ItemLaws.{values_fill, values_read}
 use Rattle.dq_pdu.proofs.ContextLaws.{not_nil, filled}

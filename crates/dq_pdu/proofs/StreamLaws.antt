@@ -1,11 +1,11 @@
 -- The PDUs of a stream split it, they are the only ones that do, and a longer stream adds to them.
 use Rattle.std.proofs.Common.{◌≡◌, ℕ, zero, suc, ◌+◌, ◌<◌, ◌≤◌, List, [], ◌∷◌, ◌++◌, length, take, drop, Option, Some, None, refl, sym, ap, ◌∙◌, arith, length-drop}
 use Rattle.std.proofs.lemmas.List.{append-nil, take-append-drop, drop_at}
-use Rattle.dq_pdu.specs.declared.reading.FirstPdu.{FirstPdu}
-use Rattle.dq_pdu.specs.declared.reading.FirstPdu.TheVariants.{Partial, Faulty, Whole}
+use Rattle.dq_pdu.specs.declared.pdu_reader.FirstPdu.{FirstPdu}
+use Rattle.dq_pdu.specs.declared.pdu_reader.FirstPdu.TheVariants.{Partial, Faulty, Whole}
 use Rattle.dq_pdu.specs.declared.fault.PduFault.{PduFault}
 use Rattle.dq_pdu.specs.declared.pdu.Pdu.{Pdu}
-use Rattle.dq_pdu.specs.Reading.{first_pdu}
+use Rattle.dq_pdu.specs.PduReader.{first_pdu}
 use Rattle.dq_pdu.specs.Stream.{Pdus, Follow, HasNoPdu, Splits, fault_at_front, pdus_within, pdus_in, stream_read_on}
 use Rattle.dq_pdu.proofs.FirstPdus.{count_within, fault_of-faulty, fault_of-partial}
 use Rattle.dq_pdu.proofs.PduLaws.{pdus_partial, pdus_faulty, pdus_whole, pdus_in-append}

@@ -6,7 +6,7 @@ use Rattle.std.specs.Int.{w16, w32, to_be_bytes}
 use Rattle.std.proofs.lemmas.Bool.{and_parts, and_from, eqb-true, eq-eqb, not-true, cases_Bool}
 use Rattle.std.proofs.lemmas.List.{append-nil, drop_at}
 use Rattle.std.proofs.lemmas.Nat.{from_be_bytes-to_be_bytes_2, from_be_bytes-to_be_bytes_4}
-use Rattle.dq_pdu.specs.declared.reading.Item.{Item}
+use Rattle.dq_pdu.specs.declared.pdu_reader.Item.{Item}
 use Rattle.dq_pdu.specs.declared.pdu.ProposedContext.{ProposedContext}
 use Rattle.dq_pdu.specs.declared.pdu.AnsweredContext.{AnsweredContext}
 use Rattle.dq_pdu.specs.declared.pdu.Pdv.{Pdv}
@@ -14,7 +14,7 @@ use Rattle.dq_list.specs.Lengths.{is_empty}
 use Rattle.dq_pdu.specs.Octets.{Fills, bodies, exactly_one, is_uid_padding, without_uid_padding}
 use Rattle.dq_pdu.specs.Spelling.{IsItem, IsPdv, IsProposed, IsAnsweredContext}
 use Rattle.dq_pdu.specs.Writing.{item, control_header, pdv, proposed_body, answered_body, is_bare, is_proposable, is_answerable}
-use Rattle.dq_pdu.specs.Reading.{is_odd}
+use Rattle.dq_pdu.specs.PduReader.{is_odd}
 use Rattle.dq_pdu.proofs.ContextLaws.{not_nil, filled}
 use Rattle.dq_pdu.proofs.PartLaws.{some_is}
 use Rattle.dq_pdu.proofs.ItemLaws.{items_once}

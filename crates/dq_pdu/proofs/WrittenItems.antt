@@ -4,10 +4,10 @@ use Rattle.std.specs.Prelude.{IfSome, option_map, codes}
 use Rattle.std.specs.Int.{w16, w32, to_be_bytes}
 use Rattle.std.proofs.lemmas.List.{drop_at}
 use Rattle.std.proofs.lemmas.Nat.{from_be_bytes-to_be_bytes_2, from_be_bytes-to_be_bytes_4}
-use Rattle.dq_pdu.specs.declared.reading.Item.{Item}
+use Rattle.dq_pdu.specs.declared.pdu_reader.Item.{Item}
 use Rattle.dq_pdu.specs.Octets.{Fills, parts_of, bodies, at_most_one, without_uid_padding}
 use Rattle.dq_pdu.specs.Spelling.{IsItem, AreFields, IsMaximumLength, IsUserInformation}
-use Rattle.dq_pdu.specs.Reading.{item_at}
+use Rattle.dq_pdu.specs.PduReader.{item_at}
 use Rattle.dq_pdu.specs.Writing.{item, application_context, maximum_length, request_information, implementation, accept_information, fixed_fields, associate_octets, kind, is_uid_name}
 use Rattle.dq_pdu.specs.Widths.{AreWide}
 use Rattle.dq_pdu.proofs.PartLaws.{some_is}

@@ -8,7 +8,7 @@ use Rattle.dq_pdu.specs.declared.pdu.ProposedContext.{ProposedContext}
 use Rattle.dq_pdu.specs.declared.pdu.AnsweredContext.{AnsweredContext}
 use Rattle.dq_pdu.specs.Numbers.{title_length, reserved_length}
 use Rattle.dq_pdu.specs.Octets.{are_distinct}
-use Rattle.dq_pdu.specs.Reading.{is_odd}
+use Rattle.dq_pdu.specs.PduReader.{is_odd}
 use Rattle.dq_pdu.specs.Writing.{is_bare}
 use Rattle.dq_pdu.specs.Widths.{AreWide}
 

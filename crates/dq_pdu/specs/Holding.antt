@@ -1,10 +1,10 @@
 -- For the prover alone: what an inbox holds between two pieces. It may change.
 use Rattle.std.specs.Prelude.{◌≡◌, ℕ, List, Option, Some, None}
 use Rattle.dq_pdu.specs.declared.fault.PduFault.{PduFault}
-use Rattle.dq_pdu.specs.declared.reading.FirstPdu.TheVariants.{Partial}
+use Rattle.dq_pdu.specs.declared.pdu_reader.FirstPdu.TheVariants.{Partial}
 use Rattle.dq_pdu.specs.declared.inbox.InboxState.{InboxState}
 use Rattle.dq_pdu.specs.declared.inbox.InboxState.TheVariants.{Reading, Stopped, Spent}
-use Rattle.dq_pdu.specs.Reading.{first_pdu}
+use Rattle.dq_pdu.specs.PduReader.{first_pdu}
 use Rattle.dq_pdu.specs.Stream.{pdus_in}
 
 -- what an inbox holds: the rest after the last PDU, or the fault

@@ -2,7 +2,7 @@ pub mod Numbers
 pub mod Faults
 pub mod Octets
 pub mod Spelling
-pub mod Reading
+pub mod PduReader
 pub mod Shrinking
 pub mod Stream
 pub mod Holding

@@ -4,7 +4,7 @@ use Rattle.dq_list.specs.Readers.{◌>>=◌}
 use Rattle.std.specs.Prelude.{◌≡◌, ℕ, zero, suc, Bool, true, false, ◌&&◌, ◌||◌, not, ◌==◌, if◌then◌else◌, List, [], ◌∷◌, ◌++◌, length, Option, Some, None}
 use Rattle.std.specs.Int.{Width, byte_len, from_be_bytes}
 use Rattle.dq_list.specs.Lengths.{is_empty}
-use Rattle.dq_pdu.specs.declared.reading.Item.{Item}
+use Rattle.dq_pdu.specs.declared.pdu_reader.Item.{Item}
 
 -- the octets are the number, the most significant first
 pub record Says (width : Width) (octets : List ℕ) (number : ℕ) : Type 0 where

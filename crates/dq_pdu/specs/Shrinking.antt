@@ -3,9 +3,9 @@ use Rattle.std.proofs.Common.{◌≡◌, ℕ, ◌-◌, ◌<◌, ◌≤◌, Bool,
 use Rattle.std.specs.Prelude.{◌||◌}
 use Rattle.std.specs.Int.{w16, w32, from_be_bytes}
 use Rattle.std.proofs.lemmas.Bool.{ltb-false, or_parts}
-use Rattle.dq_pdu.specs.declared.reading.Item.{Item}
+use Rattle.dq_pdu.specs.declared.pdu_reader.Item.{Item}
 use Rattle.dq_pdu.specs.declared.pdu.Pdv.{Pdv}
-use Rattle.dq_pdu.specs.Reading.{item_at, pdv_at}
+use Rattle.dq_pdu.specs.PduReader.{item_at, pdv_at}
 
 abbrev pub Shrinks : {A : Type 0} → (List ℕ → Option (A × List ℕ)) → Type 0
 Shrinks {A} part =

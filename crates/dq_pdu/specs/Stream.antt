@@ -4,11 +4,11 @@ use Rattle.std.specs.Prelude.{◌≡◌, ℕ, zero, suc, nat_lt, if◌then◌els
 use Rattle.dq_pdu.specs.declared.pdu.Pdu.{Pdu}
 use Rattle.dq_pdu.specs.declared.fault.PduFault.{PduFault}
 use Rattle.dq_pdu.specs.declared.fault.PduFault.TheVariants.{Unrecognized, TooLong, Malformed}
-use Rattle.dq_pdu.specs.declared.reading.FirstPdu.{FirstPdu}
-use Rattle.dq_pdu.specs.declared.reading.FirstPdu.TheVariants.{Partial, Faulty, Whole}
+use Rattle.dq_pdu.specs.declared.pdu_reader.FirstPdu.{FirstPdu}
+use Rattle.dq_pdu.specs.declared.pdu_reader.FirstPdu.TheVariants.{Partial, Faulty, Whole}
 use Rattle.dq_pdu.specs.Numbers.{pdu_header, longest_body}
 use Rattle.dq_pdu.specs.Spelling.{SpellsPdu}
-use Rattle.dq_pdu.specs.Reading.{body_length, is_unrecognized, first_pdu}
+use Rattle.dq_pdu.specs.PduReader.{body_length, is_unrecognized, first_pdu}
 
 -- the stream is spellings of the PDUs, one after the other, and then the rest
 abbrev pub Follow : List Pdu → List ℕ → List ℕ → Type 0

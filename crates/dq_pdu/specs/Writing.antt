@@ -14,7 +14,7 @@ use Rattle.dq_list.specs.Lengths.{is_empty}
 use Rattle.dq_pdu.specs.Numbers.{a_associate_rq, a_associate_ac, a_associate_rj, p_data_tf, a_release_rq, a_release_rp, a_abort, application_context_item, proposed_context_item, answered_context_item, abstract_syntax_item, transfer_syntax_item, user_information_item, maximum_length_item, implementation_class_uid_item, implementation_version_name_item, longest_body, pdv_fields}
 use Rattle.dq_pdu.specs.Octets.{is_uid_padding, are_distinct}
 use Rattle.dq_pdu.specs.Spelling.{SpellsPdu}
-use Rattle.dq_pdu.specs.Reading.{is_odd}
+use Rattle.dq_pdu.specs.PduReader.{is_odd}
 
 -- an item or sub-item (PS3.8 section 9.3.2)
 abbrev pub item : ℕ → List ℕ → List ℕ
@@ -102,8 +102,8 @@ body ReleaseRp = 0 ∷ 0 ∷ 0 ∷ 0 ∷ []
 body (Abort source reason) = 0 ∷ 0 ∷ source ∷ reason ∷ []
 
 -- the octets that are written for a PDU
-abbrev pub spelling : Pdu → List ℕ
-spelling pdu = kind pdu ∷ 0 ∷ (to_be_bytes w32 (length (body pdu)) ++ body pdu)
+abbrev pub pdu_octets : Pdu → List ℕ
+pdu_octets pdu = kind pdu ∷ 0 ∷ (to_be_bytes w32 (length (body pdu)) ++ body pdu)
 
 -- a P-DATA PDU of one PDV
 abbrev pub p_data : ℕ → Bool → Bool → List ℕ → Pdu
@@ -112,7 +112,7 @@ p_data context command last octets =
 
 -- a PDU that has a spelling: the octets that are written for it spell it
 abbrev pub IsWritable : Pdu → Type 0
-IsWritable pdu = SpellsPdu pdu (spelling pdu)
+IsWritable pdu = SpellsPdu pdu (pdu_octets pdu)
 
 abbrev pub AreWritable : List Pdu → Type 0
 AreWritable [] = Unit {0}

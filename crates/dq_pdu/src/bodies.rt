@@ -3,7 +3,7 @@ ghost use Rattle.std.specs.Prelude.{◌≡◌, ◌≤◌, ◌+◌, ℕ, List, Op
 ghost use Rattle.dq_list.specs.Readers.{Gives};
 ghost use Rattle.dq_pdu.specs.Numbers.{associate_fields};
 ghost use Rattle.dq_pdu.specs.Octets.{parts_of, bodies, each_given, without_uid_padding};
-ghost use Rattle.dq_pdu.specs.Reading.{Fails, maximum_in, user_information_of, proposed_of, answered_of, fields_of, associate_of, request_of, accept_of, pdv_at, data_pdu_of, pdu_of};
+ghost use Rattle.dq_pdu.specs.PduReader.{Fails, maximum_in, user_information_of, proposed_of, answered_of, fields_of, associate_of, request_of, accept_of, pdv_at, data_pdu_of, pdu_of};
 ghost use Rattle.dq_pdu.specs.Shrinking.{pdv_shrinks};
 
 use crate::items::{ReadPart, at_most_one, exactly_one, name_of, names_of, parts_of};
@@ -12,7 +12,7 @@ use crate::numbers::{
     item_type, pdu_type,
 };
 use crate::pdu::{Accept, AnsweredContext, Pdu, Pdv, ProposedContext, Request};
-use crate::reading::{Item, ReadError};
+use crate::pdu_reader::{Item, ReadError};
 use crate::rules::{Identified, are_distinct};
 use dq_list::Listed;
 use std::alloc::{AllocError, Global};
@@ -29,7 +29,7 @@ fn maximum_in(found: Option<&[u8]>) -> Result<Option<u32>, ReadError>
 }
 
 /// The maximum length that user information holds.
-#[tactic(auto, unfolding(crate::specs::Reading::user_information_of))]
+#[tactic(auto, unfolding(crate::specs::PduReader::user_information_of))]
 fn user_information_of(alloc: Global, user: Option<&[u8]>) -> Result<Option<u32>, ReadError>
     ensures { Gives Fails (λ x. x) result
         (user_information_of (option_map (λ x. x.now) user.entry)) }
@@ -54,7 +54,7 @@ trait Context: Identified + Drop {
 impl Context for ProposedContext {
     ghost context_of = { proposed_of };
 
-    #[tactic(auto, unfolding(crate::specs::Reading::proposed_of))]
+    #[tactic(auto, unfolding(crate::specs::PduReader::proposed_of))]
     fn read(alloc: Global, body: &[u8]) -> Result<Self, ReadError> {
         if body.len() < CONTEXT_FIELDS {
             return Err(ReadError::Malformed);
@@ -77,7 +77,7 @@ impl Context for ProposedContext {
 impl Context for AnsweredContext {
     ghost context_of = { answered_of };
 
-    #[tactic(auto, unfolding(crate::specs::Reading::answered_of))]
+    #[tactic(auto, unfolding(crate::specs::PduReader::answered_of))]
     fn read(alloc: Global, body: &[u8]) -> Result<Self, ReadError> {
         if body.len() < CONTEXT_FIELDS {
             return Err(ReadError::Malformed);
@@ -145,7 +145,7 @@ pub(crate) struct Associate {
 
 /// What a request and an acceptance have in common, from the body and the items after its fixed
 /// fields.
-#[tactic(auto, unfolding(crate::specs::Reading::fields_of))]
+#[tactic(auto, unfolding(crate::specs::PduReader::fields_of))]
 fn fields_of(alloc: Global, body: &[u8], items: &[Item]) -> Result<Associate, ReadError>
     requires { associate_fields ≤ length body.now }
     ensures { Gives Fails (λ x. x) result (fields_of body.now items.now) }
@@ -165,7 +165,7 @@ fn fields_of(alloc: Global, body: &[u8], items: &[Item]) -> Result<Associate, Re
 
 /// What a request and an acceptance have in common, and the contexts in the items of a type, from
 /// the body (PS3.8 sections 9.3.2 and 9.3.3).
-#[tactic(auto, unfolding(crate::specs::Reading::associate_of))]
+#[tactic(auto, unfolding(crate::specs::PduReader::associate_of))]
 fn associate_of<C: Context>(
     alloc: Global,
     body: &[u8],
@@ -187,7 +187,7 @@ fn associate_of<C: Context>(
 }
 
 /// A request, from its body (PS3.8 section 9.3.2).
-#[tactic(auto, unfolding(crate::specs::Reading::request_of))]
+#[tactic(auto, unfolding(crate::specs::PduReader::request_of))]
 fn request_of(alloc: Global, body: &[u8]) -> Result<Request, ReadError>
     ensures { Gives Fails (λ x. x) result (request_of body.now) }
 {
@@ -212,7 +212,7 @@ fn request_of(alloc: Global, body: &[u8]) -> Result<Request, ReadError>
 }
 
 /// An acceptance, from its body (PS3.8 section 9.3.3).
-#[tactic(auto, unfolding(crate::specs::Reading::accept_of))]
+#[tactic(auto, unfolding(crate::specs::PduReader::accept_of))]
 fn accept_of(alloc: Global, body: &[u8]) -> Result<Accept, ReadError>
     ensures { Gives Fails (λ x. x) result (accept_of body.now) }
 {
@@ -242,7 +242,7 @@ impl ReadPart for Pdv {
 
     ghost shrinks = { pdv_shrinks };
 
-    #[tactic(auto, unfolding(crate::specs::Reading::pdv_at))]
+    #[tactic(auto, unfolding(crate::specs::PduReader::pdv_at))]
     fn read(alloc: Global, octets: &[u8]) -> Result<(Pdv, &[u8]), ReadError> {
         if octets.len() < PDV_HEADER {
             return Err(ReadError::Malformed);
@@ -264,7 +264,7 @@ impl ReadPart for Pdv {
 }
 
 /// A P-DATA-TF PDU, from its body.
-#[tactic(auto, unfolding(crate::specs::Reading::data_pdu_of))]
+#[tactic(auto, unfolding(crate::specs::PduReader::data_pdu_of))]
 fn values_of(alloc: Global, body: &[u8]) -> Result<Pdu, ReadError>
     ensures { Gives Fails (λ x. x) result (data_pdu_of body.now) }
 {
@@ -276,7 +276,7 @@ fn values_of(alloc: Global, body: &[u8]) -> Result<Pdu, ReadError>
 }
 
 /// The PDU of a type, from its body.
-#[tactic(auto, unfolding(crate::specs::Reading::pdu_of))]
+#[tactic(auto, unfolding(crate::specs::PduReader::pdu_of))]
 pub(crate) fn pdu_of(alloc: Global, kind: u8, body: &[u8]) -> Result<Pdu, ReadError>
     ensures { Gives Fails (λ x. x) result (pdu_of kind body.now) }
 {

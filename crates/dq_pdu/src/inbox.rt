@@ -55,7 +55,7 @@ pub struct Fed {
 
 impl Inbox {
     /// An inbox that has read nothing. It takes no memory.
-    #[tactic(auto, unfolding(crate::specs::Stream::pdus_within, crate::specs::Reading::first_pdu))]
+    #[tactic(auto, unfolding(crate::specs::Stream::pdus_within, crate::specs::PduReader::first_pdu))]
     pub fn new(alloc: Global) -> Self
         ensures { InboxAfter [] result }
     {
@@ -67,7 +67,7 @@ impl Inbox {
 
     /// Resets the inbox for another stream: it has read nothing. It takes no memory, and keeps its
     /// room where that is for no more than two PDUs of the greatest length.
-    #[tactic(auto, unfolding(crate::specs::Stream::pdus_within, crate::specs::Reading::first_pdu))]
+    #[tactic(auto, unfolding(crate::specs::Stream::pdus_within, crate::specs::PduReader::first_pdu))]
     pub fn reset(&mut self)
         ensures { InboxAfter [] self.new }
     {

@@ -3,11 +3,11 @@
 ghost use Rattle.std.specs.Prelude.{◌≡◌, ℕ, List, Option, map, option_map, IfOk, Some};
 ghost use Rattle.dq_pdu.specs.Octets.{parts_of, bodies, at_most_one, exactly_one, without_uid_padding};
 ghost use Rattle.dq_list.specs.Readers.{Gives};
-ghost use Rattle.dq_pdu.specs.Reading.{Fails, item_at};
+ghost use Rattle.dq_pdu.specs.PduReader.{Fails, item_at};
 ghost use Rattle.dq_pdu.specs.Shrinking.{Shrinks, item_shrinks};
 
 use crate::numbers::ITEM_HEADER;
-use crate::reading::{Item, ReadError};
+use crate::pdu_reader::{Item, ReadError};
 use crate::rules::is_padding;
 use dq_list::Listed;
 use std::alloc::{AllocError, Global};
@@ -28,7 +28,7 @@ impl ReadPart for Item {
 
     ghost shrinks = { item_shrinks };
 
-    #[tactic(auto, unfolding(crate::specs::Reading::item_at))]
+    #[tactic(auto, unfolding(crate::specs::PduReader::item_at))]
     fn read(alloc: Global, octets: &[u8]) -> Result<(Item, &[u8]), ReadError> {
         if octets.len() < ITEM_HEADER {
             return Err(ReadError::Malformed);

@@ -9,12 +9,12 @@ ghost use Rattle.dq_pdu.specs.declared.pdu.Pdu.{Pdu};
 ghost use Rattle.dq_pdu.specs.declared.pdu.Pdu.TheVariants.{Request as request_pdu, Accept as accept_pdu};
 ghost use Rattle.dq_pdu.specs.declared.pdu.Request.{Request};
 ghost use Rattle.dq_pdu.specs.declared.pdu.Accept.{Accept};
-ghost use Rattle.dq_pdu.specs.declared.reading.FirstPdu.TheVariants.{Whole};
+ghost use Rattle.dq_pdu.specs.declared.pdu_reader.FirstPdu.TheVariants.{Whole};
 ghost use Rattle.dq_pdu.specs.Numbers.{longest_body, pdu_header, pdv_header};
 ghost use Rattle.dq_pdu.specs.Octets.{is_uid_padding, without_uid_padding};
 ghost use Rattle.dq_pdu.specs.Spelling.{SpellsPdu};
-ghost use Rattle.dq_pdu.specs.Reading.{first_pdu};
-ghost use Rattle.dq_pdu.specs.Writing.{spelling, p_data, is_bare, IsWritable, AreWritable};
+ghost use Rattle.dq_pdu.specs.PduReader.{first_pdu};
+ghost use Rattle.dq_pdu.specs.Writing.{pdu_octets, p_data, is_bare, IsWritable, AreWritable};
 ghost use Rattle.dq_pdu.specs.Stream.{Splits, pdus_in, fault_at_front, with_list, stream_read_on};
 ghost use Rattle.dq_pdu.specs.Inboxes.{InboxAfter, inbox_fault, inbox_octets};
 ghost use Rattle.dq_pdu.specs.Acceptances.{AreContextIds, IsReceived, IsAcceptance};
@@ -36,16 +36,16 @@ pub fn reading_is_spelling()
 /// What is written for a PDU is read as that PDU, whatever follows it.
 pub fn writing_is_read()
     ensures { (pdu : Pdu) (others : List ℕ) → IsWritable pdu
-        → first_pdu (spelling pdu ++ others) ≡ Whole pdu (length (spelling pdu)) }
+        → first_pdu (pdu_octets pdu ++ others) ≡ Whole pdu (length (pdu_octets pdu)) }
 {}
 
 /// PDUs that are written one after the other are read as those PDUs, whatever follows them; where
 /// nothing does, nothing is left, and there is no fault.
 pub fn written_pdus_are_read()
     ensures all { (pdus : List Pdu) → AreWritable pdus
-        → pdus_in (flat_map spelling pdus) ≡ record { list = pdus; rest = []; fault = None } }
+        → pdus_in (flat_map pdu_octets pdus) ≡ record { list = pdus; rest = []; fault = None } }
     ensures more { (pdus : List Pdu) (more : List ℕ) → AreWritable pdus
-        → pdus_in (flat_map spelling pdus ++ more) ≡ with_list pdus (pdus_in more) }
+        → pdus_in (flat_map pdu_octets pdus ++ more) ≡ with_list pdus (pdus_in more) }
 {}
 
 /// A fragment of at most 65,530 octets is written as a PDU of one PDV.

@@ -10,7 +10,7 @@ pub mod laws;
 mod numbers;
 mod parts;
 mod pdu;
-mod reading;
+mod pdu_reader;
 mod role;
 mod rules;
 mod stream;

@@ -4,7 +4,7 @@ ghost use Rattle.dq_pdu.specs.Stream.{pdus_in};
 
 use crate::fault::PduFault;
 use crate::pdu::Pdu;
-use crate::reading::{FirstPdu, first_pdu_of};
+use crate::pdu_reader::{FirstPdu, first_pdu_of};
 use std::alloc::{AllocError, Global};
 
 /// The PDUs that octets begin with, the fault after them, and the octets that are left.

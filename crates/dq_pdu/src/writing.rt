@@ -2,7 +2,7 @@
 ghost use Rattle.std.specs.Prelude.{◌≡◌, ◌≤◌, ◌+◌, ◌<◌, ◌++◌, ◌∷◌, length, Some, IsTrue, ◌↔◌, IfOk, OnOk};
 ghost use Rattle.std.specs.Int.{w32, to_be_bytes};
 ghost use Rattle.dq_pdu.specs.Numbers.{longest_body, pdv_header};
-ghost use Rattle.dq_pdu.specs.Writing.{application_context, maximum_length, request_information, implementation, accept_information, request_octets as request_body, accept as accept_body, kind, body, spelling, p_data, is_writable, IsWritable};
+ghost use Rattle.dq_pdu.specs.Writing.{application_context, maximum_length, request_information, implementation, accept_information, request_octets as request_body, accept as accept_body, kind, body, pdu_octets, p_data, is_writable, IsWritable};
 ghost use Rattle.dq_pdu.specs.Widths.{capped_count, AreWide, HasWidths};
 
 use crate::numbers::{
@@ -225,7 +225,7 @@ fn put_header(out: &mut Vec<u8>, kind: u8, size: usize) -> Result<(), AllocError
 #[tactic(auto, using(crate::proofs::Spelled::short_body))]
 pub fn write_pdu(alloc: Global, pdu: &Pdu) -> Result<Vec<u8>, AllocError>
     requires { IsWritable pdu.now }
-    ensures { IfOk result (λ octets. octets.items ≡ spelling pdu.now) }
+    ensures { IfOk result (λ octets. octets.items ≡ pdu_octets pdu.now) }
 {
     let size = size_of_body(pdu);
     let mut out = Vec::with_capacity(alloc, size + PDU_HEADER)?;
@@ -245,7 +245,7 @@ pub fn append_p_data(
 ) -> Result<(), AllocError>
     requires { length fragment.now + pdv_header ≤ longest_body }
     ensures { OnOk result (out.new.items
-        ≡ out.old.items ++ spelling (p_data context command last fragment.now)) }
+        ≡ out.old.items ++ pdu_octets (p_data context command last fragment.now)) }
 {
     put_header(out, pdu_type::P_DATA_TF, fragment.len() + PDV_HEADER)?;
     put_pdv(out, context, command, last, fragment)

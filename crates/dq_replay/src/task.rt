@@ -4,7 +4,7 @@ ghost use Rattle.std.specs.Fmt.{decimal};
 ghost use Rattle.std.specs.Io.KnownBytes.{Appends};
 ghost use Rattle.dq_core.specs.Histories.{is_well_formed_history};
 ghost use Rattle.dq_core.specs.Shared.{replies, world_after};
-ghost use Rattle.dq_captures.specs.Printing.{reply_lines};
+ghost use Rattle.dq_captures.specs.ReplyLines.{reply_lines};
 ghost use Rattle.dq_captures.specs.Reports.{kind_word, count_text, names_of, report_line, report_text};
 
 use crate::stop::Stop;

@@ -10,7 +10,7 @@ use Rattle.sqlite.specs.Listing.{understood}
 use Rattle.sqlite_tied.specs.Compute.{everything}
 use Rattle.dq_sql.specs.declared.version.Version.TheVariants.{Two}
 use Rattle.dq_sql.specs.Schema.{schema_of}
-use Rattle.dq_sql.specs.Reading.{ShowsNoWrite}
+use Rattle.dq_sql.specs.RowReads.{ShowsNoWrite}
 use Rattle.dq_sql.proofs.Queries.{Means, selecting, column_is, of_tests, shown_columns, names}
 use Rattle.dq_sql.proofs.Silent.{IsBare, bare_shows}
 

@@ -14,17 +14,17 @@ use Rattle.dq_tables.specs.declared.row.Kind.{Kind}
 use Rattle.dq_tables.specs.declared.row.Kind.TheVariants.{Study, Series, Image, Entry, Step}
 use Rattle.dq_tables.specs.declared.row.Row.{Row}
 use Rattle.dq_tables.specs.Rows.{rows_named, IsRising}
-use Rattle.dq_tables.specs.Finding.{is_of_kind, row_at}
+use Rattle.dq_tables.specs.Lookups.{is_of_kind, row_at}
 use Rattle.dq_tables.specs.Sound.{is_own_row, is_held, OwnEach, HeldEach, IsSound}
 use Rattle.dq_tables.proofs.Order.{IsRising-filter}
 use Rattle.dq_sql.specs.declared.fault.StoreFault.{StoreFault}
 use Rattle.dq_sql.specs.declared.fault.StoreFault.TheVariants as fault
 use Rattle.dq_sql.specs.declared.version.Version.TheVariants.{Two}
 use Rattle.dq_sql.specs.Tie.{IsAtRest, IsSame, Stays}
-use Rattle.dq_sql.specs.Adopting.{IsRefused}
-use Rattle.dq_sql.specs.Filling.{HasThese}
-use Rattle.dq_sql.specs.Copying.{is_row_of, copied_rows, IsCopyOf, IsNotCopied}
-use Rattle.dq_sql.proofs.Migrated.{survives_itself}
+use Rattle.dq_sql.specs.FoundStores.{IsRefused}
+use Rattle.dq_sql.specs.FirstRows.{HasThese}
+use Rattle.dq_sql.specs.StoreCopies.{is_row_of, copied_rows, IsCopyOf, IsNotCopied}
+use Rattle.dq_sql.proofs.Migrations.{survives_itself}
 
 -- ---- filters
 

@@ -19,12 +19,12 @@ use Rattle.dq_tables.specs.declared.row.Kind.{Kind}
 use Rattle.dq_tables.specs.declared.row.Row.{Row}
 use Rattle.dq_tables.proofs.Order.{both_tests}
 use Rattle.dq_sql.specs.Tie.{row_of_cells, IsKeptRow, HasRows}
-use Rattle.dq_sql.specs.Reading.{row_shown}
-use Rattle.dq_sql.specs.Choosing.{leading_nulls, EndsWithin}
+use Rattle.dq_sql.specs.RowReads.{row_shown}
+use Rattle.dq_sql.specs.StudyIndex.{leading_nulls, EndsWithin}
 use Rattle.dq_sql.proofs.Queries.{of_tests, shown_columns}
 use Rattle.dq_sql.proofs.ChoiceTexts.{first_by}
-use Rattle.dq_sql.proofs.Selecting.{with_row, passes, chosen, each_match, map_map}
-use Rattle.dq_sql.proofs.Found.{sorted_tail, at_most_last}
+use Rattle.dq_sql.proofs.SelectAnswers.{with_row, passes, chosen, each_match, map_map}
+use Rattle.dq_sql.proofs.FoundRows.{sorted_tail, at_most_last}
 
 abbrev ends_null : Values → Bool
 ends_null r = is_null (column r 4)

@@ -17,8 +17,8 @@ use Rattle.sqlite.specs.Next.{HasMoved}
 use Rattle.sqlite.proofs.Callers.{unchanged_then}
 use Rattle.sqlite.proofs.StateLemmas.{survives_weaker}
 use Rattle.dq_sql.specs.Tie.{IsAtRest, IsSame, Stays}
-use Rattle.dq_sql.specs.Reading.{ShowsNoWrite}
-use Rattle.dq_sql.proofs.Staying.{unchanged_same, fails_same, failed_stays, commits_none, shows_none}
+use Rattle.dq_sql.specs.RowReads.{ShowsNoWrite}
+use Rattle.dq_sql.proofs.ReadOnlyQueries.{unchanged_same, fails_same, failed_stays, commits_none, shows_none}
 
 module _ (sql : List ℕ) (params : Values) (old mid new : State) (silent : ShowsNoWrite sql) (same : IsUnchanged old mid) where
   -- What is shown from a state that is as before is shown from before.

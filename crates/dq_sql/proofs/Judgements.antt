@@ -8,8 +8,8 @@ use Rattle.sqlite_value.specs.Order.{Row as Values}
 use Rattle.dq_tables.specs.declared.row.Row.{Row}
 use Rattle.dq_tables.specs.Rows.{IsRising}
 use Rattle.dq_sql.specs.Tie.{row_of_cells}
-use Rattle.dq_sql.specs.Adopting.{HoldOctets, IsGood, IsPlaceTaken, AreGood, AreSound, HasWholeRowid, rowid_of, AreRows}
-use Rattle.dq_sql.proofs.Ordered.{at_middle, each_and, good_next, bad_next}
+use Rattle.dq_sql.specs.FoundStores.{HoldOctets, IsGood, IsPlaceTaken, AreGood, AreSound, HasWholeRowid, rowid_of, AreRows}
+use Rattle.dq_sql.proofs.RowOrder.{at_middle, each_and, good_next, bad_next}
 
 front_each : {X : Type 0} (P : X → Type 0) (xs ys : List X) → AllByRecursion P (xs ++ ys) → AllByRecursion P xs
 front_each P [] ys h = tt

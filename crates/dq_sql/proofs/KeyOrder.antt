@@ -13,11 +13,11 @@ use Rattle.std.proofs.lemmas.List.Elements.{recursion_from_All, All-from_recursi
 use Rattle.dq_tables.specs.declared.row.Kind.{Kind}
 use Rattle.dq_tables.specs.declared.row.Row.{Row}
 use Rattle.dq_tables.specs.Rows.{row_place_of, row_place_order, octet_order, kind_order, number_of_kind, IsRising}
-use Rattle.dq_tables.specs.Finding.{is_of_kind, rows_of}
+use Rattle.dq_tables.specs.Lookups.{is_of_kind, rows_of}
 use Rattle.dq_tables.proofs.Order.{each_passed, each_filtered, IsRising-filter}
 use Rattle.dq_tables.proofs.OneOrder.{NeverFalls, in_order}
-use Rattle.dq_sql.proofs.Found.{sorted_tail}
-use Rattle.dq_sql.proofs.Meaning.{of_own}
+use Rattle.dq_sql.proofs.FoundRows.{sorted_tail}
+use Rattle.dq_sql.proofs.ReadRows.{of_own}
 
 abbrev pub key_of : Row → List ℕ
 key_of row = row.key

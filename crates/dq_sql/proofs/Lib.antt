@@ -1,43 +1,43 @@
-mod Added
-mod Counted
-mod Counting
-mod Filled
-mod Found
-mod Inserted
-mod Judged
+mod AddedRows
+mod RightCounts
+mod CountQueries
+mod FirstRows
+mod FoundRows
+mod Inserts
+mod RecordColumns
 mod Judgements
-mod Keeping
-mod Making
-mod Meaning
-mod Migrated
-mod Moved
+mod KeptRows
+mod ChangeSteps
+mod ReadRows
+mod Migrations
+mod ReplacedRows
 mod NewStore
-mod Ordered
-mod Placed
+mod RowOrder
+mod WhereTests
 mod Queries
-mod Replaced
+mod UpdatesAndDeletes
 mod SchemaTest
-mod Selected
-mod Selecting
+mod RowsByPlace
+mod SelectAnswers
 mod Silent
 mod ChoiceTexts
-mod Chosen
+mod StudyTests
 mod Firsts
 mod KeyOrder
-mod Taken
+mod ChosenStudies
 pub mod Statements
-mod Started
-mod Starting
-mod Staying
+mod StartedRows
+mod StartStatements
+mod ReadOnlyQueries
 mod Texts
 mod Walks
-pub mod Written
-mod Sounding
-mod Apart
-mod Adopted
-mod Copied
+pub mod WrittenRows
+mod SoundStores
+mod DistinctIds
+mod AdoptedStores
+mod CopiedTables
 mod CopiedStore
 pub mod OneSchema
-pub mod Restarted
+pub mod Restarts
 pub mod InMemory
 mod InTurn

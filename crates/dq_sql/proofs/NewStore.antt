@@ -29,7 +29,7 @@ use Rattle.dq_sql.specs.Tie.{HasRows}
 use Rattle.sqlite.proofs.Callers.{statement_of, runs_as, one_step}
 use Rattle.dq_sql.specs.declared.version.Version.TheVariants.{Two}
 use Rattle.dq_sql.specs.Schema.{schema_of, kept_table, version_table, above_index, patient_index, day_index, started_index, kept_schema}
-use Rattle.dq_sql.specs.Making.{no_schema, with_kept, with_indexes, MakesKept, MakesVersion, TakesSchema, MakesIndex, MakesIndexes, SaysVersion, StoreGoesOn}
+use Rattle.dq_sql.specs.SchemaCreation.{no_schema, with_kept, with_indexes, MakesKept, MakesVersion, TakesSchema, MakesIndex, MakesIndexes, SaysVersion, StoreGoesOn}
 use Rattle.dq_sql.proofs.Texts.{kept_text, version_text, number_text, number_terms, MakesIt, kept_is, version_is, number_is, both_made, all_made, kept_plain, version_plain, number_plain}
 
 -- a part that gave a value did not stop on the way

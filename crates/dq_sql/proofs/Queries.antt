@@ -17,7 +17,7 @@ use Rattle.sqlite.proofs.Callers.{IsPlain, command_of}
 use Rattle.dq_sql.specs.declared.version.Version.{Version}
 use Rattle.dq_sql.specs.declared.version.Version.TheVariants.{One, Two}
 use Rattle.dq_sql.specs.Schema.{schema_of}
-use Rattle.dq_sql.specs.Adopting.{number_query}
+use Rattle.dq_sql.specs.FoundStores.{number_query}
 
 -- each row of a tree that passes these tests, shown by these terms, in this order
 abbrev pub selecting : ℕ → List Term → Option Grouping → List Term → List (Term × Key) → Query

@@ -10,7 +10,7 @@ use Rattle.sqlite_schema.specs.declared.schema.Table.{Table}
 use Rattle.sqlite_schema.specs.declared.schema.Index.{Index}
 use Rattle.dq_sql.specs.declared.version.Version.{Version}
 use Rattle.dq_sql.specs.Schema.{kept_columns, version_columns, kind_checks, kept_table, version_table, kept_index}
-use Rattle.dq_sql.specs.Adopting.{HasVersion}
+use Rattle.dq_sql.specs.FoundStores.{HasVersion}
 use Rattle.dq_sql.specs.SchemaTest.{HasNoMore, HasNoRules, IsKeptTable, BoundsKind}
 use Rattle.sqlite_schema.specs.declared.schema.Schema.{Schema}
 

@@ -12,7 +12,7 @@ use Rattle.sqlite_resolve.specs.Compile.{compiled, first, planned, meaning, retu
 use Rattle.sqlite_tied.specs.Compute.{everything}
 use Rattle.sqlite.specs.Listing.{understood, if_select, is_select, reads_listing, listing_schema}
 use Rattle.dq_sql.specs.declared.version.Version.TheVariants.{One, Two}
-use Rattle.dq_sql.specs.Reading.{ShowsNoWrite}
+use Rattle.dq_sql.specs.RowReads.{ShowsNoWrite}
 use Rattle.dq_sql.proofs.Queries.{row_text, of_text, window_text, after_text, above_text, waiting_text, count_text, told_text, count_above_text, all_text, version_text}
 
 abbrev returning_in : Schema → ℕ → Checked Parsed → Checked (Option Returning)

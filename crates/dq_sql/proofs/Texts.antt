@@ -13,7 +13,7 @@ use Rattle.sqlite_schema.specs.declared.schema.Index.{Index}
 use Rattle.sqlite.proofs.Callers.{IsPlain, command_of, statement_of}
 use Rattle.dq_sql.specs.declared.version.Version.TheVariants.{Two}
 use Rattle.dq_sql.specs.Schema.{schema_of, kept_table, version_table, above_index, patient_index, day_index, started_index, kept_schema}
-use Rattle.dq_sql.specs.Making.{no_schema, with_kept, with_indexes}
+use Rattle.dq_sql.specs.SchemaCreation.{no_schema, with_kept, with_indexes}
 
 abbrev pub kept_text : List ℕ
 kept_text = codes "CREATE TABLE kept (kind INTEGER NOT NULL CHECK (kind BETWEEN 1 AND 5), inst TEXT NOT NULL, id BLOB NOT NULL, above BLOB NOT NULL, patient BLOB, day INTEGER, octets BLOB NOT NULL, started INTEGER NOT NULL, PRIMARY KEY (kind, inst, id)) STRICT"

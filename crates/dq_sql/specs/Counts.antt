@@ -1,14 +1,14 @@
--- What is remembered of how many rows there are.
+-- Row counts that are remembered.
 use Rattle.std.specs.Prelude.{◌≡◌, List, ◌∷◌, length, All, Option, Some, None, IfSome}
 use Rattle.dq_tables.specs.declared.row.Row.{Row}
-use Rattle.dq_tables.specs.Finding.{rows_of}
+use Rattle.dq_tables.specs.Lookups.{rows_of}
 use Rattle.dq_sql.specs.declared.counts.Count.{Count}
 use Rattle.dq_sql.specs.declared.counts.Counts.{Counts}
 
 -- The number, where it is known, is how many rows of the kind the institution has.
 abbrev pub IsRight : List Row → Count → Type 0
 IsRight rows count =
-    IfSome count.number (λ number. number ≡ length (rows_of count.kind count.inst rows))
+    IfSome count.number (λ number. number ≡ length (rows_of count.kind count.institution rows))
 
 abbrev pub AreRight : List Row → Counts → Type 0
 AreRight rows counts = All (IsRight rows) counts.known.items

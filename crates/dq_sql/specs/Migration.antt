@@ -1,4 +1,4 @@
--- What a migration of one store into another leaves of both.
+-- Migrations of one store into another, and how they leave both.
 use Rattle.std.specs.Prelude.{◌≡◌, ◌⊎◌, ℕ, false, List, [], IsTrue}
 use Rattle.sqlite_trees.specs.Tree.{Trees}
 use Rattle.sqlite.specs.State.{State, HasCleanDisk, Survives}
@@ -10,9 +10,9 @@ use Rattle.dq_sql.specs.declared.migrate_fault.MigrateFault.{MigrateFault}
 use Rattle.dq_sql.specs.declared.migrate_fault.MigrateFault.TheVariants.{NoMemory, Store, WrongVersion, BadRows}
 use Rattle.dq_sql.specs.declared.version.Version.TheVariants.{One}
 use Rattle.dq_sql.specs.Tie.{IsOfVersion, HasRowsOf, HasRows, IsAtRest, IsSame, Stays}
-use Rattle.dq_sql.specs.Keeping.{under_schema}
-use Rattle.dq_sql.specs.Adopting.{IsFound, ShowsAnother, FailsBy, number_query}
-use Rattle.dq_sql.specs.Migrating.{migrated_rows}
+use Rattle.dq_sql.specs.KeptRows.{under_schema}
+use Rattle.dq_sql.specs.FoundStores.{IsFound, ShowsAnother, FailsBy, number_query}
+use Rattle.dq_sql.specs.MigratedRows.{migrated_rows}
 
 abbrev pub migrate_fault_number : MigrateFault → ℕ
 migrate_fault_number NoMemory = 1

@@ -2,18 +2,18 @@
 ghost use Rattle.std.specs.Prelude.{◌≡◌, ◌≢◌, false, length, map, IfOk, IfErr, IsErr, IsErrAnd};
 ghost use Rattle.sqlite.specs.State.{HasCleanDisk};
 ghost use Rattle.sqlite.specs.Held.{state};
-ghost use Rattle.dq_tables.specs.Keeping.{IsSettled};
+ghost use Rattle.dq_tables.specs.TableStates.{IsSettled};
 ghost use Rattle.dq_tables.specs.Sound.{IsSound};
 ghost use Rattle.dq_sql.specs.declared.fault.StoreFault.TheVariants.{Store};
 ghost use Rattle.dq_sql.specs.declared.version.Version.TheVariants.{Two};
-ghost use Rattle.dq_sql.specs.Making.{no_schema};
+ghost use Rattle.dq_sql.specs.SchemaCreation.{no_schema};
 ghost use Rattle.dq_sql.specs.Tie.{Stays};
-ghost use Rattle.dq_sql.specs.Adopting.{HasVersion, IsOther, IsRefused};
-ghost use Rattle.dq_sql.specs.Copying.{is_row_of, copied_rows, IsCopyOf, IsNotCopied};
+ghost use Rattle.dq_sql.specs.FoundStores.{HasVersion, IsOther, IsRefused};
+ghost use Rattle.dq_sql.specs.StoreCopies.{is_row_of, copied_rows, IsCopyOf, IsNotCopied};
 
 use crate::fault::StoreFault;
-use crate::filling::{fill_store, is_new_store};
-use crate::finding::kept_rows;
+use crate::first_rows::{fill_store, is_new_store};
+use crate::found_store::kept_rows;
 use crate::sql_tables::SqlTables;
 use crate::version::Version;
 use dq_list::Listed;

@@ -2,7 +2,7 @@
 ghost use Rattle.std.specs.Prelude.{◌≡◌, List, ◌∷◌, length, IfSome, MatchBool};
 ghost use Rattle.dq_tables.specs.declared.row.Row.{Row};
 ghost use Rattle.dq_tables.specs.Rows.{IsRising, after, operation_of};
-ghost use Rattle.dq_tables.specs.Finding.{rows_of};
+ghost use Rattle.dq_tables.specs.Lookups.{rows_of};
 ghost use Rattle.dq_tables.specs.Sound.{ChangeFits};
 ghost use Rattle.dq_sql.specs.Counts.{IsRight, AreRight, with_one_more};
 
@@ -14,20 +14,20 @@ use std::alloc::{AllocError, Global};
 #[derive(Drop)]
 struct Count {
     kind: Kind,
-    inst: Listed<u8>,
+    institution: Listed<u8>,
     number: Option<u64>,
 }
 
 impl Count {
     fn is_of(&self, kind: Kind, institution: &[u8]) -> bool
-        ensures { MatchBool result ((self.now.kind ≡ kind) × (self.now.inst ≡ institution.now))
-            (¬ ((self.now.kind ≡ kind) × (self.now.inst ≡ institution.now))) }
+        ensures { MatchBool result ((self.now.kind ≡ kind) × (self.now.institution ≡ institution.now))
+            (¬ ((self.now.kind ≡ kind) × (self.now.institution ≡ institution.now))) }
     {
-        self.kind == kind && self.inst.as_slice() == institution
+        self.kind == kind && self.institution.as_slice() == institution
     }
 
     /// The institution has a row more of the kind.
-    #[tactic(auto, using(crate::proofs::Counted::one_more, crate::proofs::Counted::no_more))]
+    #[tactic(auto, using(crate::proofs::RightCounts::one_more, crate::proofs::RightCounts::no_more))]
     fn add(&mut self, kind: Kind, institution: &[u8])
         ensures { (row : Row) (rows : List Row) → row.kind ≡ kind → row.inst ≡ institution.now
             → IsRight rows self.old → IsRight (row ∷ rows) self.new }
@@ -38,7 +38,7 @@ impl Count {
     }
 
     /// The institution has a row less of the kind.
-    #[tactic(auto, using(crate::proofs::Counted::one_more, crate::proofs::Counted::no_more))]
+    #[tactic(auto, using(crate::proofs::RightCounts::one_more, crate::proofs::RightCounts::no_more))]
     fn take(&mut self, kind: Kind, institution: &[u8])
         ensures { (row : Row) (rows : List Row) → row.kind ≡ kind → row.inst ≡ institution.now
             → IsRight (row ∷ rows) self.old → IsRight rows self.new }
@@ -87,10 +87,10 @@ impl Counts {
         ensures { (rows : List Row) → number ≡ length (rows_of kind institution.now rows)
             → AreRight rows self.old → AreRight rows self.new }
     {
-        let inst = Listed::copy_of(alloc, institution)?;
+        let name = Listed::copy_of(alloc, institution)?;
         self.known.push(Count {
             kind,
-            inst,
+            institution: name,
             number: Some(number),
         })?;
         Ok(())
@@ -141,7 +141,7 @@ impl Counts {
                 self.add(image);
             }
             Change::EntryAdded(row) => self.add(row),
-            Change::EntryRemoved(inst, _) => self.take(Kind::Entry, inst.as_slice()),
+            Change::EntryRemoved(institution, _) => self.take(Kind::Entry, institution.as_slice()),
             Change::StepAdded(row, _) => self.add(row),
             Change::StepChanged(_) => {}
         }

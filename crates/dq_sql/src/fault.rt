@@ -25,7 +25,7 @@ pub enum StoreFault {
 }
 
 impl StoreFault {
-    ghost use Rattle.dq_sql.specs.Opening.{store_fault_number};
+    ghost use Rattle.dq_sql.specs.StoreFaults.{store_fault_number};
 
     /// Returns the number of the fault, 1 to 4, in the order in which the faults are declared.
     pub fn number(self) -> u8
@@ -36,7 +36,7 @@ impl StoreFault {
 }
 
 impl From<Error> for StoreFault {
-    ghost use Rattle.dq_sql.specs.Opening.{store_fault};
+    ghost use Rattle.dq_sql.specs.StoreFaults.{store_fault};
 
     ghost from_gives = { λ e f. f ≡ store_fault e };
 
@@ -49,7 +49,7 @@ impl From<Error> for StoreFault {
 }
 
 impl From<TableFault> for StoreFault {
-    ghost use Rattle.dq_sql.specs.Opening.{of_tables};
+    ghost use Rattle.dq_sql.specs.StoreFaults.{of_tables};
 
     ghost from_gives = { λ e f. f ≡ of_tables e };
 

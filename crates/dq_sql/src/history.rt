@@ -8,8 +8,8 @@ use dq_list::Listed;
 use dq_tables::{Change, Row};
 use std::marker::Model;
 
-/// What a store held when it was opened, and each change since. It takes no memory, and its calls
-/// do nothing: clauses alone see the rows, also once a fault has shut the store.
+/// The rows of a store when it was opened, and each change since. It takes no memory, and its
+/// calls do nothing: clauses alone see the rows, also once a fault has shut the store.
 #[derive(Drop)]
 pub(crate) struct History {
     ghost rows: { List Row },

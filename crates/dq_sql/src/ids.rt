@@ -3,9 +3,9 @@ ghost use Rattle.std.specs.Prelude.{◌≡◌, [], ◌∷◌, ◌++◌, List, If
 ghost use Rattle.std.specs.List.{IsAllAdjacentAnswer};
 ghost use Rattle.std.specs.Ordering.{int_cmp, is_lt};
 ghost use Rattle.sqlite_value.specs.Order.{Row as Values};
-ghost use Rattle.dq_sql.specs.Adopting.{AreApart, AreIds, HasWholeRowid, rowid_of};
+ghost use Rattle.dq_sql.specs.FoundStores.{AreApart, AreIds, HasWholeRowid, rowid_of};
 
-use crate::judging::value_at;
+use crate::row_check::value_at;
 use sqlite::types::ValueRef;
 use std::alloc::AllocError;
 

@@ -2,16 +2,16 @@
 ghost use Rattle.std.specs.Prelude.{◌≡◌, [], ◌∷◌, ◌++◌, List, IfSome, OnOk};
 ghost use Rattle.sqlite_value.specs.Order.{Row as Values};
 ghost use Rattle.dq_tables.specs.Rows.{IsRising};
-ghost use Rattle.dq_sql.specs.Adopting.{IsJudged};
+ghost use Rattle.dq_sql.specs.FoundStores.{IsJudged};
 
 use crate::ids::ids_then;
-use crate::placing::rows_then;
+use crate::row_order::rows_then;
 use dq_tables::Row;
 use sqlite::Error;
 use std::alloc::{AllocError, Global};
 
-/// What is kept of the rows that were found so far: their rowids while all are whole numbers, and
-/// their rows in order while all are good and no two of one place.
+/// The rows that were found so far: their rowids while all are whole numbers, and their rows in
+/// order while all are good and no two of one place.
 #[derive(Drop)]
 pub(crate) struct Judgement {
     pub(crate) ids: Option<Vec<i64>>,

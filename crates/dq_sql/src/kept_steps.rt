@@ -2,7 +2,7 @@
 ghost use Rattle.std.specs.Prelude.{◌≡◌, map, IfOk, OnOk};
 ghost use Rattle.dq_tables.specs.Rows.{IsRising, after};
 ghost use Rattle.dq_tables.specs.Sound.{IsSound};
-ghost use Rattle.dq_sql.specs.Migrating.{starts_of, steps_among, migrated_rows, starting_operation};
+ghost use Rattle.dq_sql.specs.MigratedRows.{starts_of, steps_among, migrated_rows, starting_operation};
 
 use dq_list::Listed;
 use dq_tables::{Kind, Row, ids_named, start_row};
@@ -11,18 +11,18 @@ use std::alloc::{AllocError, Global};
 /// The entries of an institution that a step names.
 #[derive(Drop)]
 struct NamedEntries {
-    inst: Listed<u8>,
+    institution: Listed<u8>,
     ids: Listed<Listed<u8>>,
 }
 
 impl NamedEntries {
-    /// What a step names.
+    /// Returns the entries that a step names.
     fn of(alloc: Global, step: &Row) -> Result<NamedEntries, AllocError>
         ensures { IfOk result (λ entries. starting_operation entries ≡ starts_of step.now) }
     {
         let data_set = step.data_set(alloc)?;
         Ok(NamedEntries {
-            inst: Listed::copy_of(alloc, step.inst.as_slice())?,
+            institution: Listed::copy_of(alloc, step.inst.as_slice())?,
             ids: ids_named(alloc, &data_set)?,
         })
     }
@@ -34,12 +34,12 @@ impl NamedEntries {
         ensures rising { IsRising rows.new.items }
     {
         for id in self.ids.as_slice() {
-            start_row(rows, self.inst.as_slice(), id.as_slice());
+            start_row(rows, self.institution.as_slice(), id.as_slice());
         }
     }
 }
 
-/// What each step among the rows names.
+/// Returns the entries that each step among the rows names.
 fn named_by_steps(alloc: Global, rows: &[Row]) -> Result<Vec<NamedEntries>, AllocError>
     ensures { IfOk result (λ all. map starting_operation all.items ≡ map starts_of (steps_among rows.now)) }
 {

@@ -7,12 +7,12 @@ ghost use Rattle.sqlite.specs.State.{HasCleanDisk, Opens};
 ghost use Rattle.sqlite.specs.Files.{file_state};
 ghost use Rattle.sqlite.specs.Start.{FindsIn};
 ghost use Rattle.dq_tables.specs.declared.row.Row.{Row};
-ghost use Rattle.dq_tables.specs.Keeping.{IsSettled};
+ghost use Rattle.dq_tables.specs.TableStates.{IsSettled};
 ghost use Rattle.dq_tables.specs.Rows.{rows_named, IsRising};
 ghost use Rattle.dq_tables.specs.Sound.{IsSound};
 ghost use Rattle.dq_sql.specs.declared.fault.StoreFault.TheVariants.{WrongVersion, BadRows};
-ghost use Rattle.dq_sql.specs.Copying.{copied_rows};
-ghost use Rattle.dq_sql.specs.Migrating.{migrated_rows, with_start};
+ghost use Rattle.dq_sql.specs.StoreCopies.{copied_rows};
+ghost use Rattle.dq_sql.specs.MigratedRows.{migrated_rows, with_start};
 
 use crate::fault::StoreFault;
 use crate::memory_files::MemoryFile;
@@ -34,7 +34,7 @@ pub fn tables_over_trees_in_memory_are_honest(_tables: &SqlTables<MemStore>)
 
 /// A migration leaves each row as it was and where it was, but that an entry is started which a kept
 /// step of its institution names. No row is added.
-#[tactic(auto, using(crate::proofs::Started::migrated_is))]
+#[tactic(auto, using(crate::proofs::StartedRows::migrated_is))]
 pub fn migrated_rows_are_the_rows_with_started_entries()
     ensures { (rows : List Row) → IsRising rows → migrated_rows rows ≡ map (with_start rows) rows }
 {}
@@ -53,10 +53,10 @@ pub fn copies_have_the_rows_of_those_named()
         IsSound (copied_rows names rows) }
 {}
 
-/// What a crash leaves of tables is adopted. Let a connection be opened over files that hold what a
-/// crash could leave of the files of tables. Then it is adopted with rows that a crash could leave of
-/// the tables, and is refused neither as of another version nor for its rows. A crash then leaves the
-/// rows that it has, and no others.
+/// The files that a crash leaves of tables are adopted. Let a connection be opened over files
+/// that hold what a crash could leave of the files of tables. Then it is adopted with rows that a
+/// crash could leave of the tables, and is refused neither as of another version nor for its
+/// rows. A crash then leaves the rows that it has, and no others.
 pub fn what_a_crash_leaves_is_adopted<D: Disk + Drop, E: Disk + Drop>(
     alloc: Global,
     tables: SqlTables<FileStore<D>>,

@@ -1,36 +1,36 @@
 //! Rows in SQLite: a keeper of rows over a database that lasts.
 #![tactic(auto)]
 
-mod adopting;
+mod adoption;
 mod cells;
-mod choosing;
 mod copied_store;
-mod copying;
 mod counts;
 mod fault;
-mod filling;
-mod finding;
+mod first_rows;
+mod found_store;
 mod history;
 mod ids;
 mod judgement;
-mod judging;
 mod kept_steps;
 pub mod laws;
 mod memory_files;
 mod migrate_fault;
-mod migrating;
-mod opening;
-mod placing;
-mod reading;
+mod migration;
+mod new_store;
+mod row_check;
+mod row_order;
+mod row_reader;
+mod row_writer;
 mod schema;
 mod schema_test;
 mod sql_tables;
+mod store_copy;
+mod study_index;
 mod version;
 mod window;
-mod writing;
 
 pub use fault::StoreFault;
-pub use finding::kept_rows;
+pub use found_store::kept_rows;
 pub use memory_files::MemoryFile;
 pub use migrate_fault::MigrateFault;
 pub use sql_tables::SqlTables;

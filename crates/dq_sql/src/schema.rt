@@ -1,8 +1,8 @@
-//! What a new store is made of.
+//! The tables and indexes of a new store.
 ghost use Rattle.std.specs.Prelude.{◌≡◌, ◌≢◌, [], ◌∷◌, OnOk, MatchBool};
 ghost use Rattle.sqlite.specs.State.{HasCleanDisk, Survives, KeepsCommit};
 ghost use Rattle.sqlite.specs.Held.{state};
-ghost use Rattle.dq_sql.specs.Making.{no_schema, MakesKept, MakesVersion, MakesIndex, MakesIndexes, SaysVersion, StoreGoesOn};
+ghost use Rattle.dq_sql.specs.SchemaCreation.{no_schema, MakesKept, MakesVersion, MakesIndex, MakesIndexes, SaysVersion, StoreGoesOn};
 ghost use Rattle.dq_sql.specs.Schema.{above_index, patient_index, day_index, started_index};
 ghost use Rattle.dq_sql.specs.Tie.{HasRows};
 

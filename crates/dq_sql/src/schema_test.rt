@@ -7,7 +7,7 @@ ghost use Rattle.sqlite_schema.specs.declared.code.Op.TheVariants as node;
 ghost use Rattle.sqlite_schema.specs.Code.{terms_in};
 ghost use Rattle.dq_sql.specs.Schema.{optional, record_columns, further_columns, kept_columns, version_columns, kind_checks, kept_table, version_table, kept_index, key_index, above_index, patient_index, day_index, started_index, further_indexes, schema_of};
 ghost use Rattle.dq_sql.specs.declared.version.Version.TheVariants.{Two};
-ghost use Rattle.dq_sql.specs.Adopting.{HasVersion};
+ghost use Rattle.dq_sql.specs.FoundStores.{HasVersion};
 ghost use Rattle.dq_sql.specs.SchemaTest.{HasNoMore, HasNoRules, HasKey, BoundsKind, IsKeptTable, HasOthers};
 
 use crate::version::Version;
@@ -37,11 +37,11 @@ fn is_column(column: &Column, name: &[u8], kind: Kind, is_required: bool) -> boo
 fn are_record_columns(columns: &[Column]) -> bool
     ensures { IsTrue result → columns.now ≡ record_columns }
 {
-    let [kind, inst, id, above, patient, day, octets] = columns else {
+    let [kind, institution, id, above, patient, day, octets] = columns else {
         return false;
     };
     is_column(kind, b"kind", Kind::Integer, true)
-        && is_column(inst, b"inst", Kind::Text, true)
+        && is_column(institution, b"inst", Kind::Text, true)
         && is_column(id, b"id", Kind::Blob, true)
         && is_column(above, b"above", Kind::Blob, true)
         && is_column(patient, b"patient", Kind::Blob, false)

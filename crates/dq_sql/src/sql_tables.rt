@@ -5,10 +5,10 @@ ghost use Rattle.sqlite.specs.State.{HasCleanDisk};
 ghost use Rattle.sqlite.specs.Held.{state};
 ghost use Rattle.dq_tables.specs.declared.fault.TableFault.TheVariants.{Store};
 ghost use Rattle.dq_tables.specs.declared.row.Row.{Row};
-ghost use Rattle.dq_sql.specs.Keeping.{KeepsSoundRows, under_schema};
+ghost use Rattle.dq_sql.specs.KeptRows.{KeepsSoundRows, under_schema};
 ghost use Rattle.dq_sql.specs.Tie.{HasRows};
 ghost use Rattle.dq_sql.specs.Counts.{AreRight};
-ghost use Rattle.dq_sql.specs.Restarting.{ImageHoldsRows, HoldsAlone};
+ghost use Rattle.dq_sql.specs.Restarts.{ImageHoldsRows, HoldsAlone};
 ghost use Rattle.sqlite_wal.specs.Files.{outcomes};
 ghost use Rattle.sqlite_wal.specs.Reads.{AreClean};
 ghost use Rattle.sqlite_wal.specs.Recovery.{Image};
@@ -17,7 +17,7 @@ use crate::counts::Counts;
 use crate::fault::StoreFault;
 use crate::history::History;
 use crate::window::Window;
-use crate::{choosing, reading, writing};
+use crate::{row_reader, row_writer, study_index};
 use dq_list::Listed;
 use dq_tables::{Change, Choice, Kind, Row, TableFault, Tables};
 use sqlite::{Alter, Connection, FileStore, Files};
@@ -127,8 +127,8 @@ impl<D: Disk + Drop> SqlTables<FileStore<D>> {
 
 impl<S: Alter> Tables for SqlTables<S> {
     ghost use Rattle.sqlite.specs.Held.{state};
-    ghost use Rattle.dq_sql.specs.Keeping.{kept_by};
-    ghost use Rattle.dq_sql.specs.Kept.{kept_sound, left_sound};
+    ghost use Rattle.dq_sql.specs.KeptRows.{kept_by};
+    ghost use Rattle.dq_sql.specs.OneContent.{kept_sound, left_sound};
 
     ghost state = { λ t. kept_by (state S.Store t.conn) t.history.rows t.failed };
 
@@ -146,12 +146,12 @@ impl<S: Alter> Tables for SqlTables<S> {
         institution: &[u8],
         key: &[u8],
     ) -> Result<Option<Row>, TableFault> {
-        let answer = reading::row(&mut self.conn, self.alloc, kind, institution, key);
+        let answer = row_reader::row(&mut self.conn, self.alloc, kind, institution, key);
         noted(&mut self.failed, answer)
     }
 
     fn rows_of(&mut self, kind: Kind, institution: &[u8]) -> Result<Listed<Row>, TableFault> {
-        let answer = reading::rows_of(&mut self.conn, self.alloc, kind, institution);
+        let answer = row_reader::rows_of(&mut self.conn, self.alloc, kind, institution);
         noted(&mut self.failed, answer)
     }
 
@@ -163,7 +163,7 @@ impl<S: Alter> Tables for SqlTables<S> {
         most: usize,
     ) -> Result<Listed<Row>, TableFault> {
         let window = Window { from, most };
-        let answer = reading::rows_from(&mut self.conn, self.alloc, kind, institution, window);
+        let answer = row_reader::rows_from(&mut self.conn, self.alloc, kind, institution, window);
         noted(&mut self.failed, answer)
     }
 
@@ -174,7 +174,14 @@ impl<S: Alter> Tables for SqlTables<S> {
         key: &[u8],
         most: usize,
     ) -> Result<Listed<Row>, TableFault> {
-        let answer = reading::rows_after(&mut self.conn, self.alloc, kind, institution, key, most);
+        let answer = row_reader::rows_after(
+            &mut self.conn,
+            self.alloc,
+            kind,
+            institution,
+            key,
+            most,
+        );
         noted(&mut self.failed, answer)
     }
 
@@ -184,7 +191,7 @@ impl<S: Alter> Tables for SqlTables<S> {
         institution: &[u8],
         above: &[u8],
     ) -> Result<Listed<Row>, TableFault> {
-        let answer = reading::rows_above(&mut self.conn, self.alloc, kind, institution, above);
+        let answer = row_reader::rows_above(&mut self.conn, self.alloc, kind, institution, above);
         noted(&mut self.failed, answer)
     }
 
@@ -193,12 +200,12 @@ impl<S: Alter> Tables for SqlTables<S> {
         institution: &[u8],
         choice: &Choice,
     ) -> Result<Listed<Row>, TableFault> {
-        let answer = choosing::studies_in(&mut self.conn, self.alloc, institution, choice);
+        let answer = study_index::studies_in(&mut self.conn, self.alloc, institution, choice);
         noted(&mut self.failed, answer)
     }
 
     fn waiting(&mut self, institution: &[u8]) -> Result<Listed<Row>, TableFault> {
-        let answer = reading::waiting(&mut self.conn, self.alloc, institution);
+        let answer = row_reader::waiting(&mut self.conn, self.alloc, institution);
         noted(&mut self.failed, answer)
     }
 
@@ -206,7 +213,7 @@ impl<S: Alter> Tables for SqlTables<S> {
         if let Some(number) = self.counts.get(kind, institution) {
             return Ok(number);
         }
-        let answer = reading::count(&mut self.conn, kind, institution);
+        let answer = row_reader::count(&mut self.conn, kind, institution);
         let number = noted(&mut self.failed, answer)?;
         self.counts.note(self.alloc, kind, institution, number)?;
         Ok(number)
@@ -218,7 +225,7 @@ impl<S: Alter> Tables for SqlTables<S> {
         institution: &[u8],
         above: &[u8],
     ) -> Result<u64, TableFault> {
-        let answer = reading::count_above(&mut self.conn, kind, institution, above);
+        let answer = row_reader::count_above(&mut self.conn, kind, institution, above);
         noted(&mut self.failed, answer)
     }
 
@@ -227,7 +234,7 @@ impl<S: Alter> Tables for SqlTables<S> {
     }
 
     fn apply(&mut self, change: &Change) -> Result<(), TableFault> {
-        match writing::commit(&mut self.conn, self.alloc, change) {
+        match row_writer::commit(&mut self.conn, self.alloc, change) {
             Ok(()) => {
                 self.history = self.history.then(change);
                 self.counts.follow(change);

@@ -18,7 +18,7 @@ use Rattle.dq_dataset.specs.declared.data_set.Element.{Element}
 use Rattle.dq_dataset.specs.declared.header.Syntax.TheVariants.{Explicit}
 use Rattle.dq_dataset.specs.Tree.{ElementList}
 use Rattle.dq_dataset.specs.View.{elements_of, has_tag}
-use Rattle.dq_dataset.specs.Reading.{reading}
+use Rattle.dq_dataset.specs.DataSetReader.{data_set_read}
 use Rattle.dq_dataset.specs.Canonical.{canonical}
 use Rattle.dq_dataset.specs.Editing.{cut_out, is_listed}
 use Rattle.dq_dataset.specs.Values.{sole_at}
@@ -27,15 +27,15 @@ use Rattle.dq_tables.specs.declared.row.Kind.{Kind}
 use Rattle.dq_tables.specs.declared.row.Kind.TheVariants.{Study, Series, Image}
 use Rattle.dq_tables.specs.declared.row.Row.{Row}
 use Rattle.dq_tables.specs.Rows.{Record, RowPlace, Put, IsRising, IsOf, of, row_of, record_place, place, within, row_place_of, row_place_order, rows_before, rows_past, after_edit, after_edits, put_if, edits_of}
-use Rattle.dq_tables.specs.Finding.{row_at}
+use Rattle.dq_tables.specs.Lookups.{row_at}
 use Rattle.dq_tables.specs.Keys.{uid_at}
 use Rattle.dq_tables.specs.Sound.{is_own_row, is_held, is_value, has_key, has_above, is_within_limits, IsNew, IsNewIf, FitsStored}
 use Rattle.dq_tables.proofs.Order.{rows_total, is_at, IsRising-split}
 use Rattle.dq_tables.proofs.InOrder.{row_at_is}
 use Rattle.dq_tables.proofs.Lens.{rising_edit}
-use Rattle.dq_tables.proofs.Seen.{found_own}
+use Rattle.dq_tables.proofs.OwnRows.{found_own}
 use Rattle.dq_vr.specs.StudyRoot.{study_attributes, series_attributes, image_attributes}
-use Rattle.dq_store.specs.Storing.{Instance, Kept, kept_among, cut_record, study_record, series_record, image_record, put_new, stored_edits}
+use Rattle.dq_store.specs.CStore.{Instance, Kept, kept_among, cut_record, study_record, series_record, image_record, put_new, stored_edits}
 use Rattle.dq_store.specs.Views.{new_if, new_rows}
 
 -- ---- what is found where a row of another kind is put
@@ -112,7 +112,7 @@ value_is : (o : Option (List ℕ)) (v : List ℕ) → o ≡ Some v → is_value 
 value_is o v e = rw e (same_bytes v)
 
 own_cut : (h : List ℕ) (kind : Kind) (key above : List ℕ) (tags : List Tag) (d : ElementList)
-    → reading Explicit (canonical Explicit (cut_out tags d)) ≡ Ok (cut_out tags d) → has_key kind key (cut_out tags d) ≡ true
+    → data_set_read Explicit (canonical Explicit (cut_out tags d)) ≡ Ok (cut_out tags d) → has_key kind key (cut_out tags d) ≡ true
     → has_above kind above (cut_out tags d) ≡ true → is_within_limits kind (canonical Explicit (cut_out tags d)) ≡ true
     → is_own_row (row_of h (cut_record kind key above tags d)) ≡ true
 unfolding is_own_row
@@ -122,7 +122,7 @@ own_cut h kind key above tags d back has_its_key has_its_above short =
 -- ---- the change
 
 module _ (h : List ℕ) (sent : Instance)
-    (back : (tags : List Tag) → reading Explicit (canonical Explicit (cut_out tags sent.elements)) ≡ Ok (cut_out tags sent.elements))
+    (back : (tags : List Tag) → data_set_read Explicit (canonical Explicit (cut_out tags sent.elements)) ≡ Ok (cut_out tags sent.elements))
     (study_is : uid_at study_instance_uid sent.elements ≡ Some sent.study) (series_is : uid_at series_instance_uid sent.elements ≡ Some sent.series)
     (image_is : uid_at sop_instance_uid sent.elements ≡ Some sent.image) where
   abbrev d : ElementList

@@ -14,7 +14,7 @@ use Rattle.dq_dataset.proofs.Views.{elements_of-as_elements}
 use Rattle.dq_tables.specs.declared.row.Row.{Row}
 use Rattle.dq_tables.specs.Rows.{record_of}
 use Rattle.dq_tables.specs.Records.{data_set_of}
-use Rattle.dq_store.specs.Storing.{data_set_afterwards}
+use Rattle.dq_store.specs.CStore.{data_set_afterwards}
 
 -- an element is among those that are listed where it is listed, and is among them
 joined : (listed e_listed same rest : Bool) → (same ≡ true → listed ≡ e_listed)

@@ -5,6 +5,6 @@ mod Sifted
 mod LevelAttributes
 pub mod Fitting
 pub mod Outcomes
-pub mod Staying
+pub mod OtherRows
 mod StaysSound
 mod Whole

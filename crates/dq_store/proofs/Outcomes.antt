@@ -5,16 +5,16 @@ use Rattle.dq_list.specs.Readers.{only_if}
 use Rattle.dq_dataset.specs.declared.fault.ReadFault.{ReadFault}
 use Rattle.dq_dataset.specs.declared.header.Syntax.{Syntax}
 use Rattle.dq_dataset.specs.Tree.{ElementList, no_elements}
-use Rattle.dq_dataset.specs.Reading.{reading}
+use Rattle.dq_dataset.specs.DataSetReader.{data_set_read}
 use Rattle.dq_dimse.specs.Received.{Message}
 use Rattle.dq_dimse.specs.Receiving.{is_over}
 use Rattle.dq_dimse.specs.Statuses.{out_of_resources, does_not_match_sop_class, cannot_understand, success, elements_discarded}
 use Rattle.dq_config.specs.Limits.{Limits}
 use Rattle.dq_tables.specs.Rows.{Record, Edit}
-use Rattle.dq_tables.specs.Serving.{first_refusal, refusal_or}
+use Rattle.dq_tables.specs.ServiceEffects.{first_refusal, refusal_or}
 use Rattle.dq_dimse.specs.Limits.{store_limit}
 use Rattle.dq_store.specs.declared.kept_rows.KeptRows.{KeptRows}
-use Rattle.dq_store.specs.Storing.{Instance, Kept, kept_among, instance_in, names_instance, keeps_too_much, instance_refusals, storage_refusals, stored_status, stored_edits, store_outcome}
+use Rattle.dq_store.specs.CStore.{Instance, Kept, kept_among, instance_in, names_instance, keeps_too_much, instance_refusals, storage_refusals, stored_status, stored_edits, store_outcome}
 use Rattle.dq_store.specs.Views.{rows_among, unless_refused, records_kept, instance_stored, kept_status}
 use Rattle.dq_store.proofs.Records.{kept_is}
 
@@ -55,7 +55,7 @@ not_provided true x none = cc
 not_provided false x none = refl
 
 not_read : (limits : Limits) (records : List Record) (message : Message) (syntax : Syntax) (r : Result ElementList ReadFault)
-    → is_over store_limit message ≡ false → reading syntax message.octets ≡ r → result_ok r ≡ None
+    → is_over store_limit message ≡ false → data_set_read syntax message.octets ≡ r → result_ok r ≡ None
     → store_outcome limits records message syntax ≡ (cannot_understand, [])
 unfolding store_outcome
 not_read limits records message syntax (Ok d) h same none = cc
@@ -66,16 +66,16 @@ module _ (limits : Limits) (records : List Record) (message : Message) (syntax :
   unfolding store_outcome
   over h = rw h refl
 
-  pub unread : is_over store_limit message ≡ false → result_ok (reading syntax message.octets) ≡ None
+  pub unread : is_over store_limit message ≡ false → result_ok (data_set_read syntax message.octets) ≡ None
       → store_outcome limits records message syntax ≡ (cannot_understand, [])
-  unread h none = not_read limits records message syntax (reading syntax message.octets) h refl none
+  unread h none = not_read limits records message syntax (data_set_read syntax message.octets) h refl none
 
-  pub too_much : (d : ElementList) → is_over store_limit message ≡ false → reading syntax message.octets ≡ Ok d → keeps_too_much d ≡ true
+  pub too_much : (d : ElementList) → is_over store_limit message ≡ false → data_set_read syntax message.octets ≡ Ok d → keeps_too_much d ≡ true
       → store_outcome limits records message syntax ≡ (out_of_resources, [])
   unfolding store_outcome
   too_much d h read large = rw (h, read, large) refl
 
-  module _ (d : ElementList) (h : is_over store_limit message ≡ false) (read : reading syntax message.octets ≡ Ok d)
+  module _ (d : ElementList) (h : is_over store_limit message ≡ false) (read : data_set_read syntax message.octets ≡ Ok d)
       (small : keeps_too_much d ≡ false) where
     pub unnamed : names_instance message.command d ≡ false → store_outcome limits records message syntax ≡ (does_not_match_sop_class, [])
     unfolding store_outcome
@@ -106,6 +106,6 @@ pub refused_changes_nothing : (limits : Limits) (records : List Record) (message
     ⊎ (((store_outcome limits records message syntax).0 ≡ success) ⊎ ((store_outcome limits records message syntax).0 ≡ elements_discarded))
 unfolding store_outcome
 refused_changes_nothing limits records message syntax =
-    let data_set = reading syntax message.octets in
+    let data_set = data_set_read syntax message.octets in
     let sent = instance_in (result_unwrap_or data_set no_elements) in
     outcome_refused (first_refusal (storage_refusals limits records message data_set)) (kept_among records sent) sent

@@ -5,7 +5,7 @@ use Rattle.dq_tables.specs.declared.row.Row.{Row}
 use Rattle.dq_tables.specs.Rows.{Record, row_of, record_of}
 use Rattle.dq_store.specs.declared.kept_rows.KeptRows.{KeptRows}
 use Rattle.dq_store.specs.Views.{rows_among, records_kept}
-use Rattle.dq_store.specs.Storing.{Instance, kept_among, finds_no_room, stored_edits}
+use Rattle.dq_store.specs.CStore.{Instance, kept_among, finds_no_room, stored_edits}
 
 kept_again : (h : List ℕ) (o : Option Record) → option_map record_of (option_map (row_of h) o) ≡ o
 kept_again h None = refl

@@ -18,9 +18,9 @@ use Rattle.dq_dimse.specs.Statuses.{success, elements_discarded}
 use Rattle.dq_config.specs.Limits.{Limits}
 use Rattle.dq_tables.specs.Rows.{Record, Edit}
 use Rattle.dq_tables.specs.Keys.{uid_at}
-use Rattle.dq_tables.specs.Serving.{first_refusal, refusal_or}
+use Rattle.dq_tables.specs.ServiceEffects.{first_refusal, refusal_or}
 use Rattle.dq_vr.specs.StudyRoot.{study_attributes, series_attributes, image_attributes}
-use Rattle.dq_store.specs.Storing.{Instance, Kept, kept_among, instance_in, names_instance, data_set_afterwards, is_in_one_of, is_kept_whole, stored_status, stored_edits, instance_refusals, is_kept_elsewhere, has_series_elsewhere}
+use Rattle.dq_store.specs.CStore.{Instance, Kept, kept_among, instance_in, names_instance, data_set_afterwards, is_in_one_of, is_kept_whole, stored_status, stored_edits, instance_refusals, is_kept_elsewhere, has_series_elsewhere}
 use Rattle.dq_store.specs.Views.{kept_status, instance_stored}
 use Rattle.dq_store.proofs.Fitting.{is_tag_listed, listed_by_tag, uid_of_cut}
 

@@ -13,7 +13,7 @@ use Rattle.dq_dataset.specs.Tree.{ElementList}
 use Rattle.dq_dataset.specs.Editing.{cut_out}
 use Rattle.dq_dataset.specs.Faults.{IsFaulty}
 use Rattle.dq_dataset.specs.Grammar.{IsSpelled}
-use Rattle.dq_dataset.specs.Reading.{reading}
+use Rattle.dq_dataset.specs.DataSetReader.{data_set_read}
 use Rattle.dq_dataset.specs.Sieve.{IsSifted, has_other}
 use Rattle.dq_dataset.proofs.Large.{no_fault, sifted_kept, sifted_large, sifted_small}
 use Rattle.dq_dimse.specs.declared.command.Body.{Body}
@@ -27,7 +27,7 @@ use Rattle.dq_dimse.specs.Received.{Message}
 use Rattle.dq_dimse.specs.Receiving.{is_over}
 use Rattle.dq_config.specs.Limits.{Limits}
 use Rattle.dq_tables.specs.Rows.{Record}
-use Rattle.dq_store.specs.Storing.{Instance, instance_in, names_instance, keeps_too_much, store_outcome}
+use Rattle.dq_store.specs.CStore.{Instance, instance_in, names_instance, keeps_too_much, store_outcome}
 use Rattle.dq_store.specs.Views.{instance_stored}
 use Rattle.dq_store.proofs.Outcomes.{unread, too_much, not_provided, unnamed, handed_on}
 use Rattle.dq_store.proofs.Sieved.{named_kept, kept_decides}
@@ -102,14 +102,14 @@ kept_in syntax octets kept other (inr x) = (let no = x.2 in absurd cc)
 
 module _ (limits : Limits) (records : List Record) (syntax : Syntax) (held : HeldMessage) (m : Message) (h : Refines syntax held m) where
   pub stored_unread : (answer : Answer) (fault : ReadFault) → held.body ≡ Sifted answer → answer ≡ Fault fault
-      → ((first : ReadFault) → IsFaulty syntax m.octets first → reading syntax m.octets ≡ Err first)
+      → ((first : ReadFault) → IsFaulty syntax m.octets first → data_set_read syntax m.octets ≡ Err first)
       → store_outcome limits records m syntax ≡ (0xC000, [])
   stored_unread answer fault is e law =
       let faulty = faulty_in syntax m.octets fault (subst (IsSifted syntax kept_attributes m.octets) e (is_answer syntax held m h answer is)) in
       unread limits records m syntax (not_over syntax held m h answer is) (ap result_ok (law faulty.0 faulty.1))
 
   pub stored_large : (answer : Answer) → held.body ≡ Sifted answer → answer ≡ Large
-      → ((d : ElementList) → IsSpelled syntax m.octets d → reading syntax m.octets ≡ Ok d)
+      → ((d : ElementList) → IsSpelled syntax m.octets d → data_set_read syntax m.octets ≡ Ok d)
       → store_outcome limits records m syntax ≡ (0xA700, [])
   stored_large answer is e law =
       let large = large_in syntax m.octets (subst (IsSifted syntax kept_attributes m.octets) e (is_answer syntax held m h answer is)) in
@@ -121,7 +121,7 @@ module _ (limits : Limits) (records : List Record) (syntax : Syntax) (held : Hel
       kept_in syntax m.octets kept other (subst (IsSifted syntax kept_attributes m.octets) e (is_answer syntax held m h answer is))
 
   module _ (answer : Answer) (kept : ElementList) (other : Bool) (is : held.body ≡ Sifted answer) (e : answer ≡ Kept kept other)
-      (law : (d : ElementList) → IsSpelled syntax m.octets d → reading syntax m.octets ≡ Ok d) where
+      (law : (d : ElementList) → IsSpelled syntax m.octets d → data_set_read syntax m.octets ≡ Ok d) where
     named_is : let w = kept_of_it answer kept other is e in names_instance held.command kept ≡ names_instance m.command w.whole
     named_is =
         let w = kept_of_it answer kept other is e in

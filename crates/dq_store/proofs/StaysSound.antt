@@ -9,7 +9,7 @@ use Rattle.dq_dataset.specs.declared.fault.ReadFault.{ReadFault}
 use Rattle.dq_dataset.specs.declared.header.Syntax.{Syntax}
 use Rattle.dq_dataset.specs.declared.header.Syntax.TheVariants.{Explicit}
 use Rattle.dq_dataset.specs.Tree.{ElementList}
-use Rattle.dq_dataset.specs.Reading.{reading}
+use Rattle.dq_dataset.specs.DataSetReader.{data_set_read}
 use Rattle.dq_dataset.specs.Canonical.{canonical}
 use Rattle.dq_dataset.specs.Editing.{cut_out}
 use Rattle.dq_dataset.specs.Sieve.{has_other}
@@ -21,12 +21,12 @@ use Rattle.dq_config.specs.Limits.{Limits}
 use Rattle.dq_tables.specs.declared.row.Row.{Row}
 use Rattle.dq_tables.specs.Rows.{Record, Edit, Put, Remove, Start, of, by, after, after_edit, after_edits, record_place, row_of, rows_before, rows_past, within}
 use Rattle.dq_tables.specs.Keys.{uid_at}
-use Rattle.dq_tables.specs.Serving.{first_refusal, refusal_or}
+use Rattle.dq_tables.specs.ServiceEffects.{first_refusal, refusal_or}
 use Rattle.dq_tables.specs.Sound.{IsSound, is_value}
 use Rattle.dq_tables.proofs.Order.{each_appended, each_filtered, is_before, is_past}
 use Rattle.dq_tables.proofs.Soundness.{change_sound}
 use Rattle.dq_dimse.specs.Limits.{store_limit}
-use Rattle.dq_store.specs.Storing.{Instance, Kept, kept_among, instance_in, names_instance, keeps_too_much, instance_refusals, study_record, series_record, image_record, put_new, stored_edits, store_outcome}
+use Rattle.dq_store.specs.CStore.{Instance, Kept, kept_among, instance_in, names_instance, keeps_too_much, instance_refusals, study_record, series_record, image_record, put_new, stored_edits, store_outcome}
 use Rattle.dq_store.specs.Views.{instance_stored, kept_status, new_rows}
 use Rattle.dq_store.proofs.Fitting.{new_fits, edits_are}
 use Rattle.dq_store.proofs.Outcomes.{over, unread, too_much, unnamed, handed_on}
@@ -67,7 +67,7 @@ named_uids command d named =
 
 -- what holds of the rows holds afterwards, if it does after the edits of what is kept
 module _ (P : List Row → Type 0) (h : List ℕ) (rows : List Row) (holds : P rows) (limits : Limits) (message : Message) (syntax : Syntax)
-    (keeps : (d : ElementList) → reading syntax message.octets ≡ Ok d → keeps_too_much d ≡ false → let k = cut_out kept_attributes d in
+    (keeps : (d : ElementList) → data_set_read syntax message.octets ≡ Ok d → keeps_too_much d ≡ false → let k = cut_out kept_attributes d in
     HasOwnUids k → P (after (by h (stored_edits (kept_among (of h rows) (instance_in k)) (instance_in k))) rows)) where
   abbrev made : ℕ × List Edit
   made = store_outcome limits (of h rows) message syntax
@@ -89,7 +89,7 @@ module _ (P : List Row → Type 0) (h : List ℕ) (rows : List Row) (holds : P r
       unless_refused (first_refusal (instance_refusals limits (of h rows) sent))
       (kept_status other (kept_among (of h rows) sent) sent, stored_edits (kept_among (of h rows) sent) sent) kept
 
-  named_stays : (d : ElementList) → is_over store_limit message ≡ false → reading syntax message.octets ≡ Ok d → keeps_too_much d ≡ false
+  named_stays : (d : ElementList) → is_over store_limit message ≡ false → data_set_read syntax message.octets ≡ Ok d → keeps_too_much d ≡ false
       → (named : Bool) → names_instance message.command d ≡ named → Stays made
   named_stays d short read small false other = refused_stays _ (unnamed limits (of h rows) message syntax d short read small other)
   named_stays d short read small true named =
@@ -98,18 +98,18 @@ module _ (P : List Row → Type 0) (h : List ℕ) (rows : List Row) (holds : P r
       (instance_stays (has_other kept_attributes d) (instance_in k)
       (keeps d read small (named_uids message.command k (named_kept message.command d ∙ named))))
 
-  small_stays : (d : ElementList) → is_over store_limit message ≡ false → reading syntax message.octets ≡ Ok d
+  small_stays : (d : ElementList) → is_over store_limit message ≡ false → data_set_read syntax message.octets ≡ Ok d
       → (large : Bool) → keeps_too_much d ≡ large → Stays made
   small_stays d short read true large = refused_stays _ (too_much limits (of h rows) message syntax d short read large)
   small_stays d short read false small = named_stays d short read small (names_instance message.command d) refl
 
-  read_stays : (r : Result ElementList ReadFault) → is_over store_limit message ≡ false → reading syntax message.octets ≡ r → Stays made
+  read_stays : (r : Result ElementList ReadFault) → is_over store_limit message ≡ false → data_set_read syntax message.octets ≡ r → Stays made
   read_stays (Ok d) short read = small_stays d short read (keeps_too_much d) refl
   read_stays (Err fault) short read = refused_stays _ (unread limits (of h rows) message syntax short (rw read refl))
 
   short_stays : (long : Bool) → is_over store_limit message ≡ long → Stays made
   short_stays true long = refused_stays _ (over limits (of h rows) message syntax long)
-  short_stays false short = read_stays (reading syntax message.octets) short refl
+  short_stays false short = read_stays (data_set_read syntax message.octets) short refl
 
   pub stored_stays : P (after (by h (store_outcome limits (of h rows) message syntax).1) rows)
   stored_stays = short_stays (is_over store_limit message) refl
@@ -117,7 +117,7 @@ module _ (P : List Row → Type 0) (h : List ℕ) (rows : List Row) (holds : P r
 -- ---- that they are sound
 
 module _ (h : List ℕ) (rows : List Row) (sound : IsSound rows) (sent : Instance)
-    (back : (tags : List Tag) → reading Explicit (canonical Explicit (cut_out tags sent.elements)) ≡ Ok (cut_out tags sent.elements))
+    (back : (tags : List Tag) → data_set_read Explicit (canonical Explicit (cut_out tags sent.elements)) ≡ Ok (cut_out tags sent.elements))
     (study_is : uid_at study_instance_uid sent.elements ≡ Some sent.study)
     (series_is : uid_at series_instance_uid sent.elements ≡ Some sent.series)
     (image_is : uid_at sop_instance_uid sent.elements ≡ Some sent.image) where

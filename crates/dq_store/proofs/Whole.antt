@@ -12,7 +12,7 @@ use Rattle.dq_dataset.specs.declared.fault.ReadFault.{ReadFault}
 use Rattle.dq_dataset.specs.declared.data_set.Element.{Element}
 use Rattle.dq_dataset.specs.declared.header.Syntax.{Syntax}
 use Rattle.dq_dataset.specs.Tree.{ElementList, no_elements}
-use Rattle.dq_dataset.specs.Reading.{reading}
+use Rattle.dq_dataset.specs.DataSetReader.{data_set_read}
 use Rattle.dq_dataset.specs.Editing.{cut_out, is_listed}
 use Rattle.dq_dataset.specs.View.{elements_of}
 use Rattle.dq_dimse.specs.Received.{Message}
@@ -22,22 +22,22 @@ use Rattle.dq_tables.specs.declared.row.Kind.{Kind}
 use Rattle.dq_tables.specs.declared.row.Kind.TheVariants.{Study, Series, Image}
 use Rattle.dq_tables.specs.declared.row.Row.{Row}
 use Rattle.dq_tables.specs.Rows.{Record, Edit, Put, of, by, after, records_after_edits, row_of}
-use Rattle.dq_tables.specs.Finding.{record_at, row_at, same_kind, is_of_kind}
+use Rattle.dq_tables.specs.Lookups.{record_at, row_at, same_kind, is_of_kind}
 use Rattle.dq_tables.specs.Records.{data_set_of}
-use Rattle.dq_tables.specs.Serving.{first_refusal, refusal_or}
+use Rattle.dq_tables.specs.ServiceEffects.{first_refusal, refusal_or}
 use Rattle.dq_tables.specs.Sound.{IsSound, is_held}
 use Rattle.dq_tables.proofs.Lens.{lens}
-use Rattle.dq_tables.proofs.Listing.{one_kind}
-use Rattle.dq_tables.proofs.Rising.{each_among}
+use Rattle.dq_tables.proofs.RecordLists.{one_kind}
+use Rattle.dq_tables.proofs.RisingLists.{each_among}
 use Rattle.dq_list.specs.Among.{IsAmong}
 use Rattle.dq_tables.proofs.Members.{find_among}
-use Rattle.dq_tables.proofs.Seen.{found_own}
+use Rattle.dq_tables.proofs.OwnRows.{found_own}
 use Rattle.dq_vr.specs.StudyRoot.{kept_attributes, study_attributes, series_attributes, image_attributes}
 use Rattle.dq_store.specs.Levels.{IsReadBack, has_only, keeps_to_its_level, is_of_its_level, data_set_in, study_in, series_in, image_in, stands_whole, is_kept_in}
-use Rattle.dq_store.specs.Storing.{Instance, Kept, kept_among, instance_in, keeps_too_much, is_under_another, is_kept_elsewhere, data_set_afterwards, is_in_one_of, is_kept_whole, storage_refusals, study_record, series_record, image_record, put_new, stored_status, stored_edits, store_outcome}
+use Rattle.dq_store.specs.CStore.{Instance, Kept, kept_among, instance_in, keeps_too_much, is_under_another, is_kept_elsewhere, data_set_afterwards, is_in_one_of, is_kept_whole, storage_refusals, study_record, series_record, image_record, put_new, stored_status, stored_edits, store_outcome}
 use Rattle.dq_store.proofs.Levels.{cut_has_only, has_no_other}
 use Rattle.dq_store.proofs.Sieved.{AllListed, listed_too, study_kept, series_kept, image_kept}
-use Rattle.dq_store.proofs.Staying.{kept_stays_by, all_put, image_put, series_put, study_put}
+use Rattle.dq_store.proofs.OtherRows.{kept_stays_by, all_put, image_put, series_put, study_put}
 
 -- ---- what is answered without a refusal
 
@@ -241,12 +241,12 @@ differ : (a b : ℕ) → nat_eq a b ≡ false → a ≢ b
 differ a b apart same = (let no : nat_eq a b ≡ true = grind (arith, nat_tests) in cc)
 
 abbrev pub sent_in : Message → Syntax → Instance
-sent_in message syntax = instance_in (result_unwrap_or (reading syntax message.octets) no_elements)
+sent_in message syntax = instance_in (result_unwrap_or (data_set_read syntax message.octets) no_elements)
 
 -- `says` is what the status of an instance that is not refused says of the records afterwards
 module _ (h : List ℕ) (rows : List Row) (limits : Limits) (message : Message) (syntax : Syntax) (says : List Record → Instance → Bool) where
   abbrev data_set : Result ElementList ReadFault
-  data_set = reading syntax message.octets
+  data_set = data_set_read syntax message.octets
 
   abbrev sent : Instance
   sent = sent_in message syntax

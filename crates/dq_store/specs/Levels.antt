@@ -1,5 +1,5 @@
--- What the records of studies, series and images hold, and what of an instance stands in them
--- (PS3.4 sections B.2.3 and C.6.2.1).
+-- The contents of the records of studies, series and images, and which elements of an instance
+-- are in them (PS3.4 sections B.2.3 and C.6.2.1).
 use Rattle.std.specs.Prelude.{◌≡◌, Bool, true, List, Option, Some, None}
 use Rattle.std.specs.List.{list_all}
 use Rattle.dq_vr.specs.declared.Tag.{Tag}
@@ -12,10 +12,10 @@ use Rattle.dq_tables.specs.declared.row.Kind.{Kind}
 use Rattle.dq_tables.specs.declared.row.Kind.TheVariants.{Study, Series, Image, Entry, Step}
 use Rattle.dq_tables.specs.declared.row.Row.{Row}
 use Rattle.dq_tables.specs.Rows.{Record}
-use Rattle.dq_tables.specs.Finding.{record_at}
+use Rattle.dq_tables.specs.Lookups.{record_at}
 use Rattle.dq_tables.specs.Records.{data_set_of}
 use Rattle.dq_vr.specs.StudyRoot.{study_attributes, series_attributes, image_attributes}
-use Rattle.dq_store.specs.Storing.{Instance, is_in_one_of, is_kept_whole}
+use Rattle.dq_store.specs.CStore.{Instance, is_in_one_of, is_kept_whole}
 
 -- each element is one of the attributes
 abbrev pub has_only : List Tag → ElementList → Bool

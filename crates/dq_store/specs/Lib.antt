@@ -1,3 +1,3 @@
 pub mod Levels
-pub mod Storing
+pub mod CStore
 pub mod Views

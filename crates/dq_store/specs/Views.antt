@@ -8,10 +8,10 @@ use Rattle.dq_tables.specs.declared.change.Change.TheVariants.{Stored}
 use Rattle.dq_tables.specs.declared.row.Row.{Row}
 use Rattle.dq_tables.specs.Rows.{Record, Edit, record_of, row_of}
 use Rattle.dq_tables.specs.Keys.{uid_at}
-use Rattle.dq_tables.specs.Serving.{first_refusal, refusal_or}
+use Rattle.dq_tables.specs.ServiceEffects.{first_refusal, refusal_or}
 use Rattle.dq_store.specs.declared.instance.Instance.{Instance as SentInstance}
 use Rattle.dq_store.specs.declared.kept_rows.KeptRows.{KeptRows}
-use Rattle.dq_store.specs.Storing.{Instance, Kept, kept_among, instance_refusals, study_record, series_record, image_record, stored_status, stored_edits}
+use Rattle.dq_store.specs.CStore.{Instance, Kept, kept_among, instance_refusals, study_record, series_record, image_record, stored_status, stored_edits}
 
 abbrev pub instance_of : SentInstance → Instance
 instance_of sent = record {

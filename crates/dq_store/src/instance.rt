@@ -1,10 +1,10 @@
-//! What is kept of what a C-STORE sends.
+//! The parts of a C-STORE's data set that are kept.
 ghost use Rattle.std.specs.Prelude.{◌≡◌, IfOk, IfSome, option_map};
 ghost use Rattle.dq_list.specs.Readers.{only_if};
 ghost use Rattle.dq_dataset.specs.declared.header.Syntax.TheVariants.{Explicit};
 ghost use Rattle.dq_dataset.specs.Canonical.{HasLengths};
 ghost use Rattle.dq_tables.specs.Rows.{row_of};
-ghost use Rattle.dq_store.specs.Storing.{instance_in, names_instance, cut_record, study_record, series_record, image_record};
+ghost use Rattle.dq_store.specs.CStore.{instance_in, names_instance, cut_record, study_record, series_record, image_record};
 ghost use Rattle.dq_store.specs.Views.{instance_of, HasUids};
 
 use dq_dataset::laws::editing_law;
@@ -28,7 +28,7 @@ pub(crate) struct Instance<'a> {
 
 impl<'a> Instance<'a> {
     /// That of a data set that has each UID exactly once, and that is what the command says.
-    #[tactic(auto, unfolding(crate::specs::Storing::names_instance))]
+    #[tactic(auto, unfolding(crate::specs::CStore::names_instance))]
     pub(crate) fn of(command: &Command, data_set: &'a DataSet, other: bool) -> Option<Instance<'a>>
         ensures named { option_map instance_of result
             ≡ only_if (names_instance command.now data_set.now) (instance_in data_set.now) }

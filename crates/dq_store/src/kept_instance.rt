@@ -1,14 +1,14 @@
-//! What is kept already, and what is kept of an instance.
+//! The records that are kept already, and how an instance is kept beside them.
 ghost use Rattle.std.specs.Prelude.{◌≡◌, ◌++◌, IfOk, option_map, unwrap_or};
 ghost use Rattle.dq_config.specs.Limits.{limits_of};
 ghost use Rattle.dq_tables.specs.Rows.{record_of};
-ghost use Rattle.dq_tables.specs.Serving.{first_refusal};
+ghost use Rattle.dq_tables.specs.ServiceEffects.{first_refusal};
 ghost use Rattle.dq_archive.specs.Archives.{QueriesOnly};
 ghost use Rattle.dq_dataset.specs.Editing.{cut_out, is_listed};
 ghost use Rattle.dq_dataset.specs.Same.{has_element};
 ghost use Rattle.dq_tables.specs.Records.{data_set_of};
 ghost use Rattle.dq_vr.specs.StudyRoot.{kept_attributes, study_attributes, series_attributes, image_attributes};
-ghost use Rattle.dq_store.specs.Storing.{is_under_another, kept_refusals, finds_no_room, count_of, limit_refusals, instance_refusals, is_kept_whole};
+ghost use Rattle.dq_store.specs.CStore.{is_under_another, kept_refusals, finds_no_room, count_of, limit_refusals, instance_refusals, is_kept_whole};
 ghost use Rattle.dq_store.specs.Views.{instance_of, rows_among, unless_refused, records_kept, kept_status};
 
 use crate::instance::Instance;
@@ -51,7 +51,7 @@ fn is_under_another(row: &Option<Row>, above: &[u8]) -> bool
 
 /// The status that refuses an instance which is kept elsewhere, or whose series is (PS3.4 section
 /// B.2.3).
-#[tactic(auto, unfolding(crate::specs::Storing::is_kept_elsewhere, crate::specs::Storing::has_series_elsewhere), using(crate::proofs::Records::is_some_record, crate::proofs::Records::is_none_record))]
+#[tactic(auto, unfolding(crate::specs::CStore::is_kept_elsewhere, crate::specs::CStore::has_series_elsewhere), using(crate::proofs::Records::is_some_record, crate::proofs::Records::is_none_record))]
 fn kept_refusal(kept: &KeptRows, sent: &Instance<'_>) -> Option<u16>
     ensures { result ≡ first_refusal (kept_refusals (records_kept kept.now) (instance_of sent.now)) }
 {
@@ -188,7 +188,7 @@ fn is_in_record(kept: &Option<DataSet>, tags: &[Tag], sent: &DataSet, element: &
 
 /// Whether each element that is sent is one of those that are kept of a stored object, and the record
 /// of the study, of the series or of the image has it with equal octets.
-#[tactic(auto, unfolding(crate::specs::Storing::is_kept_whole))]
+#[tactic(auto, unfolding(crate::specs::CStore::is_kept_whole))]
 fn is_kept_whole(
     study: &Option<DataSet>,
     series: &Option<DataSet>,
@@ -207,7 +207,7 @@ fn is_kept_whole(
 
 /// The status of an instance that is not refused: whether elements of it are discarded (PS3.4
 /// section B.2.3).
-#[tactic(auto, unfolding(crate::specs::Storing::stored_status), using(crate::proofs::LevelAttributes::stands_in))]
+#[tactic(auto, unfolding(crate::specs::CStore::stored_status), using(crate::proofs::LevelAttributes::stands_in))]
 pub(crate) fn stored_status(
     alloc: Global,
     kept: &KeptRows,

@@ -6,7 +6,7 @@ ghost use Rattle.dq_list.specs.Octets.{AreOctets};
 ghost use Rattle.dq_dataset.specs.declared.header.Syntax.{Syntax};
 ghost use Rattle.dq_dataset.specs.declared.data_set.Element.{Element};
 ghost use Rattle.dq_dataset.specs.Tree.{ElementList, no_elements};
-ghost use Rattle.dq_dataset.specs.Reading.{reading};
+ghost use Rattle.dq_dataset.specs.DataSetReader.{data_set_read};
 ghost use Rattle.dq_dataset.specs.Editing.{is_listed};
 ghost use Rattle.dq_dataset.specs.Facts.{IsDataSet};
 ghost use Rattle.dq_vr.specs.StudyRoot.{kept_attributes};
@@ -17,18 +17,18 @@ ghost use Rattle.dq_tables.specs.declared.row.Kind.{Kind};
 ghost use Rattle.dq_tables.specs.declared.row.Kind.TheVariants.{Study, Series, Image};
 ghost use Rattle.dq_tables.specs.declared.row.Row.{Row};
 ghost use Rattle.dq_tables.specs.Rows.{Record, Edit, IsRising, of, by, after, records_after_edits};
-ghost use Rattle.dq_tables.specs.Finding.{record_at};
+ghost use Rattle.dq_tables.specs.Lookups.{record_at};
 ghost use Rattle.dq_tables.specs.Records.{data_set_of};
 ghost use Rattle.dq_tables.specs.Sound.{IsSound};
 ghost use Rattle.dq_vr.specs.StudyRoot.{study_attributes, series_attributes, image_attributes};
 ghost use Rattle.dq_store.specs.Levels.{IsReadBack, is_of_its_level, is_kept_in, stands_whole};
-ghost use Rattle.dq_store.specs.Storing.{instance_in, keeps_too_much, store_outcome};
+ghost use Rattle.dq_store.specs.CStore.{instance_in, keeps_too_much, store_outcome};
 
 use dq_dataset::laws::{editing_law, spelling_law, written_law};
 
-/// What is kept stays as it is, whatever is stored: the first instance that is stored makes the
+/// Kept records stay as they are, whatever is stored: the first instance that is stored makes the
 /// records of its study and its series, and a repeated one changes nothing.
-#[tactic(auto, using(crate::proofs::Staying::kept_stays))]
+#[tactic(auto, using(crate::proofs::OtherRows::kept_stays))]
 pub fn kept_records_stay()
     ensures { (limits : Limits) (records : List Record) (message : Message) (syntax : Syntax)
         → (kind : Kind) (key : List ℕ) (r : Record) → record_at kind key records ≡ Some r
@@ -44,9 +44,9 @@ pub fn refusals_change_nothing()
         ⊎ ((store_outcome limits records message syntax).0 ≡ elements_discarded)) }
 {}
 
-/// What one institution stores leaves the records of every other, and another's records do not
-/// enter what it is answered nor what it keeps.
-#[tactic(auto, using(crate::proofs::Staying::others_stay, crate::proofs::Staying::own_records_decide))]
+/// One institution's C-STORE leaves the records of every other, and another's records do not
+/// affect its status or what is kept.
+#[tactic(auto, using(crate::proofs::OtherRows::others_stay, crate::proofs::OtherRows::own_records_decide))]
 pub fn institutions_are_apart()
     ensures others { (g h : List ℕ) → h ≢ g
         → (limits : Limits) (rows : List Row) (message : Message) (syntax : Syntax) → IsRising rows
@@ -82,7 +82,7 @@ pub fn rows_hold_data_sets()
     written_law();
 }
 
-/// What is kept of a stored object are the attributes of a study, of a series and of an image.
+/// The kept attributes of a stored object are those of a study, of a series and of an image.
 #[tactic(auto, using(crate::proofs::Levels::kept_are_of_levels))]
 pub fn kept_attributes_are_those_of_the_levels()
     ensures { (e : Element) → is_listed kept_attributes e
@@ -105,7 +105,7 @@ pub fn records_keep_to_their_levels()
 /// The data sets of the records that an instance makes are read back from their octets.
 fn made_data_sets_are_read_back()
     ensures { (octets : List ℕ) (syntax : Syntax) → AreOctets octets → (d : ElementList)
-        → reading syntax octets ≡ Ok d → keeps_too_much d ≡ false
+        → data_set_read syntax octets ≡ Ok d → keeps_too_much d ≡ false
         → IsReadBack study_attributes d × IsReadBack series_attributes d × IsReadBack image_attributes d }
 {
     spelling_law();
@@ -122,30 +122,30 @@ pub fn the_status_says_what_stands()
         (syntax : Syntax) → AreOctets message.octets → IsSound rows
         → (store_outcome limits (of h rows) message syntax).0 ≡ success
         → is_kept_in (of h (after (by h (store_outcome limits (of h rows) message syntax).1) rows))
-        (instance_in (result_unwrap_or (reading syntax message.octets) no_elements)) ≡ true }
+        (instance_in (result_unwrap_or (data_set_read syntax message.octets) no_elements)) ≡ true }
     ensures cut { (h : List ℕ) (limits : Limits) (rows : List Row) (message : Message)
         (syntax : Syntax) → AreOctets message.octets → IsSound rows
         → (store_outcome limits (of h rows) message syntax).0 ≡ elements_discarded
         → is_kept_in (of h (after (by h (store_outcome limits (of h rows) message syntax).1) rows))
-        (instance_in (result_unwrap_or (reading syntax message.octets) no_elements)) ≡ false }
+        (instance_in (result_unwrap_or (data_set_read syntax message.octets) no_elements)) ≡ false }
     ensures whole { (h : List ℕ) (limits : Limits) (rows : List Row) (message : Message)
         (syntax : Syntax) → AreOctets message.octets → IsSound rows
         → AllByRecursion (λ (row : Row). is_of_its_level row ≡ true) rows
         → (store_outcome limits (of h rows) message syntax).0 ≡ success
         → stands_whole (of h (after (by h (store_outcome limits (of h rows) message syntax).1) rows))
-        (instance_in (result_unwrap_or (reading syntax message.octets) no_elements)) ≡ true }
+        (instance_in (result_unwrap_or (data_set_read syntax message.octets) no_elements)) ≡ true }
     ensures discarded { (h : List ℕ) (limits : Limits) (rows : List Row) (message : Message)
         (syntax : Syntax) → AreOctets message.octets → IsSound rows
         → AllByRecursion (λ (row : Row). is_of_its_level row ≡ true) rows
         → (store_outcome limits (of h rows) message syntax).0 ≡ elements_discarded
         → stands_whole (of h (after (by h (store_outcome limits (of h rows) message syntax).1) rows))
-        (instance_in (result_unwrap_or (reading syntax message.octets) no_elements)) ≡ false }
+        (instance_in (result_unwrap_or (data_set_read syntax message.octets) no_elements)) ≡ false }
 {
     made_data_sets_are_read_back();
 }
 
-/// What holds of each row, and of any study, series and image, holds of each row afterwards: what is
-/// stored leaves the rows of entries and steps.
+/// A property of each row, and of any study, series and image, holds of each row afterwards: a
+/// C-STORE leaves the rows of entries and steps.
 pub fn rows_of_other_kinds_stay()
     ensures { (holds : Row → Bool)
         → ((row : Row) → (row.kind ≡ Study) ⊎ ((row.kind ≡ Series) ⊎ (row.kind ≡ Image))

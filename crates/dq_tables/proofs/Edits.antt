@@ -6,7 +6,7 @@ use Rattle.std.proofs.lemmas.List.Elements.{filter_map-append}
 use Rattle.dq_tables.specs.declared.row.Kind.{Kind}
 use Rattle.dq_tables.specs.declared.row.Row.{Row}
 use Rattle.dq_tables.specs.Rows.{Put, Remove, record_of, after_edit, place}
-use Rattle.dq_tables.specs.Finding.{IsAtIndex, IsFree}
+use Rattle.dq_tables.specs.Lookups.{IsAtIndex, IsFree}
 
 set_at : {X : Type 0} (xs : List X) (i : ℕ) (y : X) → i < length xs → set xs i y ≡ (take i xs ++ y ∷ []) ++ drop (suc i) xs
 set_at [] i y l = absurd (omega arith)

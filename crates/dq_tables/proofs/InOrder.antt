@@ -12,7 +12,7 @@ use Rattle.std.proofs.lemmas.Cmp.{alike_right}
 use Rattle.std.proofs.lemmas.Map.Text.{is_eq-slice_cmp}
 use Rattle.dq_tables.specs.declared.row.Row.{Row}
 use Rattle.dq_tables.specs.Rows.{RowPlace, row_place_order, row_place_of, IsRising}
-use Rattle.dq_tables.specs.Finding.{IsAtIndex, IsFree, row_at, is_of_kind}
+use Rattle.dq_tables.specs.Lookups.{IsAtIndex, IsFree, row_at, is_of_kind}
 use Rattle.dq_tables.proofs.Order.{rows_total, greater_from, less_from, is_before, is_past, is_at}
 
 pub filter_front : {X : Type 0} (p : X → Bool) (xs : List X) (i : ℕ) → ((k : ℕ) (d : X) → k < i → k < length xs → p (get_or xs k d) ≡ true)

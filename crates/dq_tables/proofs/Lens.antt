@@ -13,7 +13,7 @@ use Rattle.std.proofs.lemmas.Map.Text.{is_eq-slice_cmp}
 use Rattle.std.proofs.lemmas.Bool.{false_from_ne_true, both_ways}
 use Rattle.dq_tables.specs.declared.row.Row.{Row}
 use Rattle.dq_tables.specs.Rows.{Record, Place, record_place, place_order, records_before, records_past, Edit, Put, Remove, Start, edit_place, left_there, records_after_edit, record_at, edited_by, records_after_edits, row_of, record_of, of, RowPlace, row_place_of, within, row_place_order, IsRising, rows_before, rows_past, after_edit, after_edits, Operation, by, after, after_all, edited_all, own_edits}
-use Rattle.dq_tables.proofs.There.{StandsAt, stands_there}
+use Rattle.dq_tables.proofs.EditPlaces.{StandsAt, stands_there}
 use Rattle.dq_tables.proofs.Order.{rows_total, less_from, each_weaker, each_passed, each_appended, IsRising-split, IsRising-filter, IsRising-append, is_at, is_before, is_past, filter_none}
 
 then_equal : (o : Ordering) → ordering_then o Equal ≡ o

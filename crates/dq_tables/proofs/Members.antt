@@ -11,7 +11,7 @@ use Rattle.dq_list.specs.Among.{IsAmong}
 use Rattle.dq_tables.specs.declared.row.Kind.{Kind}
 use Rattle.dq_tables.specs.declared.row.Row.{Row}
 use Rattle.dq_tables.specs.Rows.{IsRising, RowPlace, place, row_place_of, row_place_order, rows_before, rows_past, rows_elsewhere, after_edit, Put, Remove, record_of}
-use Rattle.dq_tables.specs.Finding.{row_at}
+use Rattle.dq_tables.specs.Lookups.{row_at}
 use Rattle.dq_tables.proofs.Order.{is_at, is_past, all_past, later_past, IsRising-split, filter_all, filter_none, each_passed}
 use Rattle.dq_tables.proofs.InOrder.{row_at_is}
 

@@ -12,7 +12,7 @@ use Rattle.dq_list.specs.Among.{IsAmong}
 use Rattle.dq_tables.specs.declared.row.Row.{Row}
 use Rattle.dq_tables.specs.Rows.{row_place_of, row_place_order, IsRising}
 use Rattle.dq_tables.proofs.Order.{rows_total, greater_from, less_from, each_weaker}
-use Rattle.dq_tables.proofs.Rising.{Rises, only_one}
+use Rattle.dq_tables.proofs.RisingLists.{Rises, only_one}
 
 abbrev place_cmp : Row → Row → Ordering
 place_cmp a b = row_place_order (row_place_of a) (row_place_of b)

@@ -11,13 +11,13 @@ use Rattle.dq_tables.specs.declared.row.Row.{Row}
 use Rattle.dq_tables.specs.declared.change.Change.{Change}
 use Rattle.dq_tables.specs.declared.change.Change.TheVariants.{Stored, EntryAdded, EntryRemoved, StepAdded, StepChanged}
 use Rattle.dq_tables.specs.Rows.{RowPlace, row_place_of, row_place_order, place, rows_before, rows_past, Edit, Put, Remove, Start, record_of, row_of, after_edit, after_edits, after, operation_of, put_if, IsOf, records_after_edit, of, within}
-use Rattle.dq_tables.specs.Finding.{row_at}
+use Rattle.dq_tables.specs.Lookups.{row_at}
 use Rattle.dq_tables.specs.Sound.{IsSound, HeldEach, is_own_row, is_held, IsNew, IsNewIf, MayReplace, ChangeFits, FitsStored}
 use Rattle.dq_tables.proofs.Order.{rows_total, is_at, is_before, is_past, each_filtered, each_appended, each_weaker}
 use Rattle.dq_tables.proofs.InOrder.{row_at_is}
 use Rattle.dq_tables.proofs.Lens.{rising_edit}
-use Rattle.dq_tables.proofs.Rising.{each_among}
-use Rattle.dq_tables.proofs.Started.{started, start_keeps, started_own, entry_held}
+use Rattle.dq_tables.proofs.RisingLists.{each_among}
+use Rattle.dq_tables.proofs.StartedEntries.{started, start_keeps, started_own, entry_held}
 
 some_left_step : {X : Type 0} (t : X → Bool) (x : X) (xs ys : List X) (b : Bool) → (is_some (find t xs) ≡ true → is_some (find t (xs ++ ys)) ≡ true)
     → is_some (if b then Some x else find t xs) ≡ true → is_some (if b then Some x else find t (xs ++ ys)) ≡ true

@@ -1,4 +1,4 @@
--- What the data set of a study says of its patient and its day.
+-- The patient and the day in the data set of a study.
 use Rattle.std.specs.Prelude.{ℕ, ℤ, pos, ◌+ℤ◌, ◌*ℤ◌, unsigned_abs, List, Option, None, option_and_then, option_map}
 use Rattle.dq_vr.specs.Tags.{patient_id, study_date}
 use Rattle.dq_value.specs.Day.{Ymd, date_in}

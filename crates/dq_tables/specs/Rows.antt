@@ -1,4 +1,4 @@
--- What is kept: records of one institution, rows of all, and what changes make of them.
+-- The records of one institution, the rows of all, and the effects of changes on them.
 use Rattle.std.specs.Prelude.{◌≡◌, ℕ, Bool, true, ◌==◌, ◌&&◌, not, find, List, [], ◌∷◌, ◌++◌, if◌then◌else◌, filter, map, Option, Some, None}
 use Rattle.std.specs.declared.cmp.Ordering.{Ordering}
 use Rattle.std.specs.declared.cmp.Ordering.TheVariants.{Less}

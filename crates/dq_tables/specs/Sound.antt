@@ -9,7 +9,7 @@ use Rattle.dq_value.specs.Uid.{is_uid}
 use Rattle.dq_dataset.specs.declared.fault.ReadFault.{ReadFault}
 use Rattle.dq_dataset.specs.declared.header.Syntax.TheVariants.{Explicit}
 use Rattle.dq_dataset.specs.Tree.{ElementList}
-use Rattle.dq_dataset.specs.Reading.{reading}
+use Rattle.dq_dataset.specs.DataSetReader.{data_set_read}
 use Rattle.dq_dataset.specs.Canonical.{canonical}
 use Rattle.dq_tables.specs.declared.row.Kind.{Kind}
 use Rattle.dq_tables.specs.declared.row.Kind.TheVariants.{Study, Series, Image, Entry, Step}
@@ -17,7 +17,7 @@ use Rattle.dq_tables.specs.declared.row.Row.{Row}
 use Rattle.dq_tables.specs.declared.change.Change.{Change}
 use Rattle.dq_tables.specs.declared.change.Change.TheVariants.{Stored, EntryAdded, EntryRemoved, StepAdded, StepChanged}
 use Rattle.dq_tables.specs.Rows.{IsRising, after_edits, put_if, IsOf}
-use Rattle.dq_tables.specs.Finding.{same_kind, row_at}
+use Rattle.dq_tables.specs.Lookups.{same_kind, row_at}
 use Rattle.dq_tables.specs.Keys.{uid_at, entry_id}
 
 abbrev pub is_value : Option (List ℕ) → List ℕ → Bool
@@ -62,7 +62,7 @@ is_record_of (Ok d) row =
 -- started only where it may be.
 unfoldable pub is_own_row : Row → Bool
 is_own_row row =
-    may_be_started row.kind row.started && is_record_of (reading Explicit row.octets) row
+    may_be_started row.kind row.started && is_record_of (data_set_read Explicit row.octets) row
 
 -- the row above is there
 unfoldable pub is_held : List Row → Kind → List ℕ → List ℕ → Bool
@@ -128,8 +128,8 @@ pub record FitsStored (rows : List Row) (study series : Option Row) (image : Row
       : IsNew (after_edits image.inst (put_if series) (after_edits image.inst (put_if study) rows))
       Image image
 
--- What a change asks: added places are free, changed, removed and started rows are there, rows above
--- are there or added with it, and rows are their records' own.
+-- The conditions on a change: added places are free, changed, removed and started rows are there,
+-- rows above are there or added with it, and rows are their records' own.
 abbrev pub ChangeFits : List Row → Change → Type 0
 ChangeFits rows (Stored study series image) = FitsStored rows study series image
 ChangeFits rows (EntryAdded row) = IsNew rows Entry row

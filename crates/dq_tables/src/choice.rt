@@ -1,7 +1,7 @@
 //! Studies chosen by what is kept of them beside their octets.
 ghost use Rattle.std.specs.Prelude.{◌≡◌, true, pos, int_le, filter, IsFalse, IfOk};
 ghost use Rattle.std.specs.Str.{bytes_eq};
-ghost use Rattle.dq_tables.specs.Choosing.{has_asked_key, is_open_or, has_labels, is_chosen};
+ghost use Rattle.dq_tables.specs.StudyChoices.{has_asked_key, is_open_or, has_labels, is_chosen};
 ghost use Rattle.dq_tables.specs.Rows.{record_of};
 
 use crate::labels::Labels;
@@ -25,7 +25,7 @@ pub struct Choice {
 
 impl Choice {
     /// Whether the choice takes a study. What asks no more than the key reads no data set.
-    #[tactic(auto, unfolding(crate::specs::Choosing::is_chosen, crate::specs::Labels::patient_of, crate::specs::Labels::day_of))]
+    #[tactic(auto, unfolding(crate::specs::StudyChoices::is_chosen, crate::specs::Labels::patient_of, crate::specs::Labels::day_of))]
     pub(crate) fn takes(&self, alloc: Global, row: &Row) -> Result<bool, AllocError>
         ensures { IfOk result (λ taken. taken ≡ is_chosen self.now (record_of row.now)) }
     {

@@ -11,7 +11,7 @@ pub enum TableFault {
     /// A growth was refused.
     #[error("out of memory")]
     NoMemory = 1,
-    /// What keeps the rows failed.
+    /// The keeper of the rows failed.
     #[error("store failed")]
     Store = 2,
 }

@@ -1,4 +1,4 @@
-//! What the data set of a study says of its patient and its day.
+//! The patient and the day in the data set of a study.
 ghost use Rattle.std.specs.Prelude.{◌≡◌, ◌+ℤ◌, ◌*ℤ◌, pos, unsigned_abs, IfOk};
 ghost use Rattle.dq_value.specs.Day.{ymd_of};
 ghost use Rattle.dq_tables.specs.Labels.{date_number, day_named, patient_in, day_in, patient_of, day_of};

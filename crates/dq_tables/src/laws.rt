@@ -9,8 +9,8 @@ ghost use Rattle.dq_tables.specs.declared.row.Kind.TheVariants.{Entry};
 ghost use Rattle.dq_tables.specs.declared.row.Row.{Row};
 ghost use Rattle.dq_tables.specs.declared.change.Change.{Change};
 ghost use Rattle.dq_tables.specs.Rows.{Edit, Put, Remove, Start, record_of, row_place_of, place, rows_elsewhere, after_edit, records_after_edits, edited_all, of, IsRising, Operation, by, after, after_all, own_edits, operation_of, row_of};
-ghost use Rattle.dq_tables.specs.Finding.{row_at, rows_of, rows_above, rows_after, waiting_entries, record_at, records_of, records_above, records_after, waiting_among};
-ghost use Rattle.dq_tables.specs.Choosing.{studies_in, studies_among};
+ghost use Rattle.dq_tables.specs.Lookups.{row_at, rows_of, rows_above, rows_after, waiting_entries, record_at, records_of, records_above, records_after, waiting_among};
+ghost use Rattle.dq_tables.specs.StudyChoices.{studies_in, studies_among};
 ghost use Rattle.dq_tables.specs.Labels.{date_number, day_named, day_of};
 ghost use Rattle.dq_tables.specs.Records.{AreInOrder};
 ghost use Rattle.dq_tables.specs.Sound.{IsSound, ChangeFits};
@@ -61,8 +61,8 @@ pub fn sound_rows_stay_sound()
         → IsSound (after (operation_of change) rows) }
 {}
 
-/// What is found among the rows by an institution's name is what is found among its records.
-#[tactic(auto, using(crate::proofs::Seen::found_own, crate::proofs::Seen::listed_own, crate::proofs::Seen::above_own, crate::proofs::Seen::after_own, crate::proofs::Seen::chosen_own, crate::proofs::Seen::waiting_own, crate::proofs::Seen::counted_own))]
+/// A lookup among the rows by an institution's name finds what a lookup among its records does.
+#[tactic(auto, using(crate::proofs::OwnRows::found_own, crate::proofs::OwnRows::listed_own, crate::proofs::OwnRows::above_own, crate::proofs::OwnRows::after_own, crate::proofs::OwnRows::chosen_own, crate::proofs::OwnRows::waiting_own, crate::proofs::OwnRows::counted_own))]
 pub fn rows_are_found_among_records()
     ensures found { (kind : Kind) (h key : List ℕ) (rows : List Row)
         → row_at kind h key rows ≡ option_map (row_of h) (record_at kind key (of h rows)) }
@@ -81,7 +81,7 @@ pub fn rows_are_found_among_records()
 {}
 
 /// The records of a kind, and those of them under another record, are in the order of their keys.
-#[tactic(auto, using(crate::proofs::Listing::listed_in_order, crate::proofs::Listing::above_in_order))]
+#[tactic(auto, using(crate::proofs::RecordLists::listed_in_order, crate::proofs::RecordLists::above_in_order))]
 pub fn records_are_in_order()
     ensures listed { (kind : Kind) (institution : List ℕ) (rows : List Row) → IsRising rows
         → AreInOrder (records_of kind (of institution rows)) }
@@ -89,7 +89,7 @@ pub fn records_are_in_order()
         → AreInOrder (records_above kind above (of institution rows)) }
 {}
 
-/// What keeps rows honestly keeps sound rows, which are in order, and a crash leaves sound rows.
+/// An honest keeper of rows keeps sound rows, which are in order, and a crash leaves sound rows.
 pub fn honest_rows_are_sound<T: Tables>()
     ensures sound { (it : T) → (T.state it).honest → IsSound (T.state it).rows }
     ensures rising { (it : T) → (T.state it).honest → IsRising (T.state it).rows }
@@ -138,7 +138,7 @@ pub fn other_rows_are_left()
 
 /// An entry that is started is there as it was but for that, and so are the rows elsewhere. Where
 /// none has the key, the rows stay as they were.
-#[tactic(auto, using(crate::proofs::Started::start_has, crate::proofs::Started::start_of_none))]
+#[tactic(auto, using(crate::proofs::StartedEntries::start_has, crate::proofs::StartedEntries::start_of_none))]
 pub fn started_entries_are_there()
     ensures started { (institution key : List ℕ) (row : Row) (rows : List Row) → IsRising rows
         → row_at Entry institution key rows ≡ Some row

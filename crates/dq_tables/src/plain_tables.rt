@@ -107,7 +107,10 @@ impl Tables for PlainTables {
                 series,
                 image,
             } => self.keep_stored(study, series, image)?,
-            Change::EntryRemoved(inst, key) => self.remove_entry(inst.as_slice(), key.as_slice()),
+            Change::EntryRemoved(institution, key) => self.remove_entry(
+                institution.as_slice(),
+                key.as_slice(),
+            ),
             Change::EntryAdded(row) => self.keep(row)?,
             Change::StepAdded(row, keys) => self.keep_step(row, keys.as_slice())?,
             Change::StepChanged(row) => self.keep(row)?,

@@ -10,7 +10,7 @@ use dq_dataset::{DataSet, ReadFault, Syntax, read};
 use dq_list::Listed;
 use std::alloc::{AllocError, Global};
 
-/// What a row is of.
+/// The kind of record that a row holds.
 #[derive(Debug, Clone, Copy, PartialEq, Eq, PartialOrd, Ord)]
 pub enum Kind {
     /// A study (PS3.4 section C.6.2.1.2).
@@ -58,7 +58,7 @@ pub struct Row {
     pub kind: Kind,
     /// The institution's name.
     pub inst: Listed<u8>,
-    /// What tells the record from the others of its kind: the trimmed UID of a study, a series, an
+    /// The key of the record among those of its kind: the trimmed UID of a study, a series, an
     /// image or a step, or the trimmed id of the scheduled step of an entry.
     pub key: Listed<u8>,
     /// The key of a series' study or of an image's series; else empty.
@@ -69,8 +69,8 @@ pub struct Row {
     pub started: bool,
 }
 
-/// What a record is kept under: its kind, its key, and the key of the record above it, empty where
-/// there is none.
+/// The keys of a record: its kind, its key, and the key of the record above it, empty if there is
+/// none.
 #[derive(Clone, Copy)]
 pub struct RecordKeys<'a> {
     pub kind: Kind,

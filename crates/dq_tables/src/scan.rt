@@ -1,8 +1,8 @@
 //! Rows, scanned.
 ghost use Rattle.std.specs.Prelude.{◌≡◌, ◌&&◌, IfOk, length, take, drop, option_copied};
 ghost use Rattle.std.specs.Str.{bytes_eq};
-ghost use Rattle.dq_tables.specs.Finding.{is_of_kind, row_at, rows_of, rows_above, rows_after, waiting_entries};
-ghost use Rattle.dq_tables.specs.Choosing.{studies_in};
+ghost use Rattle.dq_tables.specs.Lookups.{is_of_kind, row_at, rows_of, rows_above, rows_after, waiting_entries};
+ghost use Rattle.dq_tables.specs.StudyChoices.{studies_in};
 
 use crate::choice::Choice;
 use crate::row::{Kind, Row};
@@ -24,7 +24,7 @@ fn has_key(row: &Row, kind: Kind, institution: &[u8], key: &[u8]) -> bool
 }
 
 /// The institution's row of a kind with the key.
-#[tactic(auto, unfolding(crate::specs::Finding::row_at))]
+#[tactic(auto, unfolding(crate::specs::Lookups::row_at))]
 fn find<'a>(rows: &'a [Row], kind: Kind, institution: &[u8], key: &[u8]) -> Option<&'a Row>
     ensures { option_copied result ≡ row_at kind institution.now key.now rows.now }
 {
@@ -48,7 +48,7 @@ pub(crate) fn row_at(
 }
 
 /// Copies of the institution's rows of a kind.
-#[tactic(auto, unfolding(crate::specs::Finding::rows_of))]
+#[tactic(auto, unfolding(crate::specs::Lookups::rows_of))]
 pub(crate) fn rows_of(
     alloc: Global,
     rows: &[Row],
@@ -78,7 +78,7 @@ pub(crate) fn cut(rows: Listed<Row>, from: usize, most: usize) -> Listed<Row>
 }
 
 /// Copies of the institution's rows of a kind under another row.
-#[tactic(auto, unfolding(crate::specs::Finding::rows_of, crate::specs::Finding::rows_above))]
+#[tactic(auto, unfolding(crate::specs::Lookups::rows_of, crate::specs::Lookups::rows_above))]
 pub(crate) fn rows_above(
     alloc: Global,
     rows: &[Row],
@@ -99,7 +99,7 @@ pub(crate) fn rows_above(
 }
 
 /// Copies of the institution's rows of a kind with keys behind a key.
-#[tactic(auto, unfolding(crate::specs::Finding::rows_of, crate::specs::Finding::rows_after))]
+#[tactic(auto, unfolding(crate::specs::Lookups::rows_of, crate::specs::Lookups::rows_after))]
 pub(crate) fn rows_after(
     alloc: Global,
     rows: &[Row],
@@ -120,7 +120,7 @@ pub(crate) fn rows_after(
 }
 
 /// How many rows of a kind the institution has.
-#[tactic(auto, unfolding(crate::specs::Finding::rows_of))]
+#[tactic(auto, unfolding(crate::specs::Lookups::rows_of))]
 pub(crate) fn count_of(rows: &[Row], kind: Kind, institution: &[u8]) -> u64
     ensures { result ≡ length (rows_of kind institution.now rows.now) }
 {
@@ -130,7 +130,7 @@ pub(crate) fn count_of(rows: &[Row], kind: Kind, institution: &[u8]) -> u64
 }
 
 /// How many rows of a kind the institution has under another row.
-#[tactic(auto, unfolding(crate::specs::Finding::rows_of, crate::specs::Finding::rows_above))]
+#[tactic(auto, unfolding(crate::specs::Lookups::rows_of, crate::specs::Lookups::rows_above))]
 pub(crate) fn count_above(rows: &[Row], kind: Kind, institution: &[u8], above: &[u8]) -> u64
     ensures { result ≡ length (rows_above kind institution.now above.now rows.now) }
 {
@@ -141,7 +141,7 @@ pub(crate) fn count_above(rows: &[Row], kind: Kind, institution: &[u8], above: &
 }
 
 /// Copies of the institution's studies that a choice takes.
-#[tactic(auto, unfolding(crate::specs::Finding::rows_of, crate::specs::Choosing::studies_in))]
+#[tactic(auto, unfolding(crate::specs::Lookups::rows_of, crate::specs::StudyChoices::studies_in))]
 pub(crate) fn studies_in(
     alloc: Global,
     rows: &[Row],
@@ -160,7 +160,7 @@ pub(crate) fn studies_in(
 }
 
 /// Copies of the institution's worklist entries that no performed procedure step has started.
-#[tactic(auto, unfolding(crate::specs::Finding::rows_of, crate::specs::Finding::waiting_entries))]
+#[tactic(auto, unfolding(crate::specs::Lookups::rows_of, crate::specs::Lookups::waiting_entries))]
 pub(crate) fn waiting(
     alloc: Global,
     rows: &[Row],

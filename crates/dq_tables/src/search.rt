@@ -1,7 +1,7 @@
 //! Rows in order, searched.
 ghost use Rattle.std.specs.Prelude.{◌≡◌, MatchResult};
 ghost use Rattle.dq_tables.specs.Rows.{IsRising, row_place_of, row_place_order, place, group_order};
-ghost use Rattle.dq_tables.specs.Finding.{IsAtIndex, IsFree};
+ghost use Rattle.dq_tables.specs.Lookups.{IsAtIndex, IsFree};
 
 use crate::row::{Kind, Row};
 use std::cmp::Ordering;

@@ -1,12 +1,12 @@
-//! What keeps rows.
+//! Keepers of rows.
 ghost use Rattle.std.specs.Prelude.{◌≡◌, List, length, take, drop, IfOk};
 ghost use Rattle.dq_tables.specs.declared.row.Kind.TheVariants.{Study, Series, Image, Entry, Step};
 ghost use Rattle.dq_tables.specs.declared.row.Row.{Row};
 ghost use Rattle.dq_tables.specs.Rows.{after, operation_of};
-ghost use Rattle.dq_tables.specs.Finding.{row_at, rows_of, rows_above, rows_after, waiting_entries};
-ghost use Rattle.dq_tables.specs.Choosing.{studies_in};
+ghost use Rattle.dq_tables.specs.Lookups.{row_at, rows_of, rows_above, rows_after, waiting_entries};
+ghost use Rattle.dq_tables.specs.StudyChoices.{studies_in};
 ghost use Rattle.dq_tables.specs.Sound.{IsSound, ChangeFits};
-ghost use Rattle.dq_tables.specs.Keeping.{State, Reads, Writes};
+ghost use Rattle.dq_tables.specs.TableStates.{State, Reads, Writes};
 
 use crate::change::Change;
 use crate::choice::Choice;
@@ -15,12 +15,12 @@ use crate::row::{Kind, Row};
 use dq_list::Listed;
 use std::alloc::Global;
 
-/// What keeps the rows of several institutions.
+/// A keeper of the rows of several institutions.
 ///
 /// Each call answers from the rows, or answers a fault and leaves them as they were. Lists are in
 /// the order of the keys, octet by octet. What is answered is allocated by the keeper's allocator.
 pub trait Tables {
-    /// What contracts see.
+    /// The state that contracts see.
     ghost state: { Self → State };
 
     /// The allocator that it was made with.
@@ -119,7 +119,7 @@ pub trait Tables {
     /// The rows are sound.
     ghost sound: { (it : Self) → (state it).honest → IsSound (state it).rows };
 
-    /// What a crash may leave is sound.
+    /// The rows that a crash may leave are sound.
     ghost left_sound: { (it : Self) → (state it).honest
         → (r : List Row) → (state it).may_leave r → IsSound r };
 

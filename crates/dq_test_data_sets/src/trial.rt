@@ -1,6 +1,6 @@
 //! Trials: octets that are read as a data set, and the canonical spellings of what was read.
 ghost use Rattle.std.specs.Prelude.{◌≡◌, ◌<◌, ◌^◌, length, string_bytes, IfOk};
-ghost use Rattle.dq_dataset.specs.Reading.{reading};
+ghost use Rattle.dq_dataset.specs.DataSetReader.{data_set_read};
 ghost use Rattle.dq_test_data_sets.specs.Answers.{reading_answer, spelled_octets, answer_text};
 
 use crate::named::{json_text, tag_text};
@@ -47,7 +47,7 @@ fn answer_text(alloc: Global, answer: &Answer) -> Result<String, AllocError>
 
 fn answer_to(alloc: Global, octets: &[u8], syntax: Syntax) -> Result<Answer, AllocError>
     requires { length octets.now < 2 ^ 31 }
-    ensures { IfOk result (λ found. found ≡ reading_answer (reading syntax octets.now)) }
+    ensures { IfOk result (λ found. found ≡ reading_answer (data_set_read syntax octets.now)) }
 {
     laws::spelling_law();
     match read(alloc, octets, syntax) {
@@ -67,7 +67,7 @@ fn answer_to(alloc: Global, octets: &[u8], syntax: Syntax) -> Result<Answer, All
 pub(crate) fn answered(alloc: Global, octets: &[u8], syntax: Syntax) -> Result<String, AllocError>
     requires { length octets.now < 2 ^ 31 }
     ensures { IfOk result
-        (λ text. string_bytes text ≡ answer_text (reading_answer (reading syntax octets.now))) }
+        (λ text. string_bytes text ≡ answer_text (reading_answer (data_set_read syntax octets.now))) }
 {
     let found = answer_to(alloc, octets, syntax)?;
     answer_text(alloc, &found)

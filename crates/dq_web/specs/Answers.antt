@@ -47,12 +47,13 @@ abbrev pub escaped_octet : ℕ → List ℕ
 escaped_octet octet = (if octet == 34 || octet == 92 then codes "\\" else [])
     ++ (if nat_le 0x20 octet && nat_le octet 0x7E then octet else 63) ∷ []
 
-abbrev pub escaped : List ℕ → List ℕ
-escaped text = flat_map escaped_octet text
+abbrev pub escaped_text : List ℕ → List ℕ
+escaped_text text = flat_map escaped_octet text
 
 -- a refusal says why by a word
 abbrev pub refused_reply : Status → List ℕ → Reply
-refused_reply status word = plain status kind.Json (codes "{\"refused\":\"" ++ escaped word ++ codes "\"}")
+refused_reply status word =
+    plain status kind.Json (codes "{\"refused\":\"" ++ escaped_text word ++ codes "\"}")
 
 -- a word that no search takes
 abbrev pub misspelled_reply : List ℕ → Reply

@@ -9,11 +9,11 @@ use Rattle.dq_web.specs.declared.counters.Service.TheVariants.{Echo, Store, Find
 use Rattle.dq_web.specs.declared.counters.Turns.{Turns}
 
 -- a sum that stops at the most of 64 bits
-abbrev pub saturated : ℕ → ℕ
-saturated number = min number 0xFFFF_FFFF_FFFF_FFFF
+abbrev pub saturated_count : ℕ → ℕ
+saturated_count number = min number 0xFFFF_FFFF_FFFF_FFFF
 
 abbrev pub one_more : ℕ → ℕ
-one_more count = saturated (count + 1)
+one_more count = saturated_count (count + 1)
 
 abbrev pub one_less : ℕ → ℕ
 one_less count = count - 1
@@ -56,5 +56,5 @@ turns_after micros turns = record {
   within_500_ms = within turns.within_500_ms micros 500000;
   within_1_s = within turns.within_1_s micros 1000000;
   all = one_more turns.all;
-  micros = saturated (turns.micros + micros);
+  micros = saturated_count (turns.micros + micros);
 }

@@ -15,11 +15,11 @@ use Rattle.dq_web.specs.declared.cutting.Test.{Test}
 use Rattle.dq_web.specs.declared.cutting.Test.TheVariants as test
 
 -- letters of either case are one in the name of a field
-abbrev pub lowered : List ℕ → List ℕ
-lowered name = map to_ascii_lowercase name
+abbrev pub lower_case : List ℕ → List ℕ
+lower_case name = map to_ascii_lowercase name
 
 abbrev pub is_named : List ℕ → List ℕ → Bool
-is_named name field = bytes_eq (lowered field) (lowered name)
+is_named name field = bytes_eq (lower_case field) (lower_case name)
 
 -- the values of the fields with a name
 abbrev pub values_named : List ℕ → List (List ℕ × List ℕ) → List (List ℕ)

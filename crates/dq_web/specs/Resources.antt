@@ -10,30 +10,31 @@ beneath name rest = name ++ codes "/" ++ rest
 
 -- behind `rs/studies/`
 abbrev pub IsPathOfStudies : List ℕ → List ℕ → Resource → Type 0
-IsPathOfStudies inst rest (Series name study) =
-    (name.now ≡ inst) × (rest ≡ beneath study.now (codes "series"))
-IsPathOfStudies inst rest (Images name study series) = (name.now ≡ inst)
+IsPathOfStudies institution rest (Series name study) =
+    (name.now ≡ institution) × (rest ≡ beneath study.now (codes "series"))
+IsPathOfStudies institution rest (Images name study series) = (name.now ≡ institution)
     × (rest ≡ beneath study.now (codes "series/" ++ beneath series.now (codes "instances")))
-IsPathOfStudies inst rest Nowhere = Unit {0}
-IsPathOfStudies inst rest other = ⊥
+IsPathOfStudies institution rest Nowhere = Unit {0}
+IsPathOfStudies institution rest other = ⊥
 
 -- behind the name of an institution and a slash
 abbrev pub IsPathBelow : List ℕ → List ℕ → Resource → Type 0
-IsPathBelow inst rest (Counts name) = (name.now ≡ inst) × (rest ≡ codes "counts")
-IsPathBelow inst rest (Studies name) = (name.now ≡ inst) × (rest ≡ codes "rs/studies")
-IsPathBelow inst rest (Unsearched name) =
-    (name.now ≡ inst) × ((rest ≡ codes "rs/series") ⊎ (rest ≡ codes "rs/instances"))
-IsPathBelow inst rest (Worklist name) = (name.now ≡ inst) × (rest ≡ codes "worklist")
-IsPathBelow inst rest (Entry name id) = (name.now ≡ inst) × (rest ≡ codes "worklist/" ++ id.now)
-IsPathBelow inst rest (Steps name) = (name.now ≡ inst) × (rest ≡ codes "steps")
-IsPathBelow inst rest Nowhere = Unit {0}
-IsPathBelow inst rest resource =
-    (below : List ℕ) × (rest ≡ codes "rs/studies/" ++ below) × IsPathOfStudies inst below resource
+IsPathBelow institution rest (Counts name) = (name.now ≡ institution) × (rest ≡ codes "counts")
+IsPathBelow institution rest (Studies name) = (name.now ≡ institution) × (rest ≡ codes "rs/studies")
+IsPathBelow institution rest (Unsearched name) =
+    (name.now ≡ institution) × ((rest ≡ codes "rs/series") ⊎ (rest ≡ codes "rs/instances"))
+IsPathBelow institution rest (Worklist name) = (name.now ≡ institution) × (rest ≡ codes "worklist")
+IsPathBelow institution rest (Entry name id) =
+    (name.now ≡ institution) × (rest ≡ codes "worklist/" ++ id.now)
+IsPathBelow institution rest (Steps name) = (name.now ≡ institution) × (rest ≡ codes "steps")
+IsPathBelow institution rest Nowhere = Unit {0}
+IsPathBelow institution rest resource =
+    (below : List ℕ) × (rest ≡ codes "rs/studies/" ++ below) × IsPathOfStudies institution below resource
 
 -- an institution's path
 abbrev pub IsOwnPath : List ℕ → Resource → Type 0
-IsOwnPath path resource = (inst : List ℕ) × (rest : List ℕ)
-    × (path ≡ codes "/" ++ beneath inst rest) × IsPathBelow inst rest resource
+IsOwnPath path resource = (institution : List ℕ) × (rest : List ℕ)
+    × (path ≡ codes "/" ++ beneath institution rest) × IsPathBelow institution rest resource
 
 -- Nowhere says nothing: other paths are not found.
 abbrev pub IsPath : List ℕ → Resource → Type 0

@@ -1,7 +1,7 @@
 //! Responses: what the server answered, and what the front answers by itself.
 ghost use Rattle.std.specs.Prelude.{◌≡◌, ◌++◌, [], flat_map, codes, find, option_copied, IfOk, OnOk};
 ghost use Rattle.std.specs.Str.{bytes_eq};
-ghost use Rattle.dq_web.specs.Answers.{plain, escaped_octet, escaped, refused_reply, misspelled_reply, server_reply, order_status, search_status, copy_status, cause_status, cause_reply, behind_comma, array_text, is_full, search_reply, found_reply, limit_text, study_counts_text, step_counts_text, counts_text, is_named_so, is_counted_of, counts_reply, done_reply, IsMetricsReply, IsReplyTo, IsResponse, IsWritten, refusal_reply, document_reply, health_reply};
+ghost use Rattle.dq_web.specs.Answers.{plain, escaped_octet, escaped_text, refused_reply, misspelled_reply, server_reply, order_status, search_status, copy_status, cause_status, cause_reply, behind_comma, array_text, is_full, search_reply, found_reply, limit_text, study_counts_text, step_counts_text, counts_text, is_named_so, is_counted_of, counts_reply, done_reply, IsMetricsReply, IsReplyTo, IsResponse, IsWritten, refusal_reply, document_reply, health_reply};
 
 use crate::counters::Counters;
 use crate::metrics::metrics_text;
@@ -65,7 +65,7 @@ fn put_escaped_octet(body: &mut Vec<u8>, octet: u8) -> Result<(), AllocError>
 
 /// Adds a text as one of JSON.
 fn put_escaped(body: &mut Vec<u8>, text: &str) -> Result<(), AllocError>
-    ensures { OnOk result (body.new.items ≡ body.old.items ++ escaped text.now) }
+    ensures { OnOk result (body.new.items ≡ body.old.items ++ escaped_text text.now) }
 {
     for octet in text.as_bytes() {
         put_escaped_octet(body, *octet)?;

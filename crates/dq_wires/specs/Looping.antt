@@ -1,7 +1,7 @@
 -- A capture that clients play.
 use Rattle.std.specs.Prelude.{◌≡◌, ◌≢◌, ◌⊎◌, ◌+◌, ◌==◌, ℕ, Bool, true, List, [], ◌∷◌, ◌++◌, length, Option, Some, None, IfSome, option_map}
 use Rattle.std.specs.List.{flat_map, position}
-use Rattle.dq_tables.specs.Keeping.{State}
+use Rattle.dq_tables.specs.TableStates.{State}
 use Rattle.dq_core.specs.declared.event.Event.{Event}
 use Rattle.dq_core.specs.declared.event.Event.TheVariants.{Open, Piece, End, Pull, Schedule, Withdraw}
 use Rattle.dq_core.specs.Histories.{opened_numbers}
@@ -26,8 +26,8 @@ orders_of (Open number ∷ events) = orders_of events
 orders_of (Piece number octets ∷ events) = orders_of events
 orders_of (End number ∷ events) = orders_of events
 orders_of (Pull number ∷ events) = orders_of events
-orders_of (Schedule inst octets ∷ events) = Schedule inst octets ∷ orders_of events
-orders_of (Withdraw inst id ∷ events) = Withdraw inst id ∷ orders_of events
+orders_of (Schedule institution octets ∷ events) = Schedule institution octets ∷ orders_of events
+orders_of (Withdraw institution id ∷ events) = Withdraw institution id ∷ orders_of events
 
 -- those that were stepped in acts
 abbrev pub ordered_in : List Act → List Event
@@ -68,8 +68,8 @@ IsPlayed opened (Piece number octets) before after = IfSome (given_to number ope
 IsPlayed opened (End number) before after = IfSome (given_to number opened) (λ given.
     connection_with given after.held ≡ None)
 IsPlayed opened (Pull number) before after = Unit {0}
-IsPlayed opened (Schedule inst octets) before after = Unit {0}
-IsPlayed opened (Withdraw inst id) before after = Unit {0}
+IsPlayed opened (Schedule institution octets) before after = Unit {0}
+IsPlayed opened (Withdraw institution id) before after = Unit {0}
 
 -- By these acts the events of a capture came about, after earlier ones, each before the next: each
 -- has acts of its own, and an order of the console is the only one that is stepped in them.

@@ -1,7 +1,7 @@
 -- What a server that stands for a history has come to after further steps.
 use Rattle.std.specs.Prelude.{◌≡◌, List, ◌++◌}
 use Rattle.dq_tables.specs.declared.row.Row.{Row}
-use Rattle.dq_tables.specs.Keeping.{State, IsSettled}
+use Rattle.dq_tables.specs.TableStates.{State, IsSettled}
 use Rattle.dq_core.specs.declared.event.Event.{Event}
 use Rattle.dq_core.specs.Shared.{replies_from, world_after}
 use Rattle.dq_core.specs.ServerView.{ServerView, Refines}

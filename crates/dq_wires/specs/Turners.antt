@@ -27,8 +27,8 @@ IsOrder (Open number) = ⊥
 IsOrder (Piece number octets) = ⊥
 IsOrder (End number) = ⊥
 IsOrder (Pull number) = ⊥
-IsOrder (Schedule inst octets) = Unit {0}
-IsOrder (Withdraw inst id) = Unit {0}
+IsOrder (Schedule institution octets) = Unit {0}
+IsOrder (Withdraw institution id) = Unit {0}
 
 -- The first fault stays.
 abbrev pub first_fault : Option TurnFault → TurnFault → TurnFault

@@ -4,7 +4,7 @@ ghost use Rattle.std.specs.Option.{option_copied};
 ghost use Rattle.dq_core.specs.Histories.{is_above};
 ghost use Rattle.dq_core.specs.Looking.{Looked, FailsToLook};
 ghost use Rattle.dq_core.specs.Showing.{found_for, steps_for};
-ghost use Rattle.dq_tables.specs.Finding.{rows_of};
+ghost use Rattle.dq_tables.specs.Lookups.{rows_of};
 ghost use Rattle.dq_wires.specs.ServerSteps.{Stepped, Moves, Fails};
 ghost use Rattle.dq_wires.specs.HeldConnections.{connection_with};
 ghost use Rattle.dq_wires.specs.Turns.{TurnsWent, TurnsCut};

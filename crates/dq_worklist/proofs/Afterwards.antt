@@ -14,7 +14,7 @@ use Rattle.dq_dataset.specs.declared.fault.ReadFault.{ReadFault}
 use Rattle.dq_dataset.specs.declared.header.Syntax.{Syntax}
 use Rattle.dq_dataset.specs.declared.header.Syntax.TheVariants.{Explicit}
 use Rattle.dq_dataset.specs.Tree.{ElementList}
-use Rattle.dq_dataset.specs.Reading.{reading}
+use Rattle.dq_dataset.specs.DataSetReader.{data_set_read}
 use Rattle.dq_dataset.specs.Canonical.{canonical}
 use Rattle.dq_dimse.specs.Received.{Message}
 use Rattle.dq_config.specs.Limits.{Limits}
@@ -23,10 +23,10 @@ use Rattle.dq_match.specs.Responses.{shown_data_set}
 use Rattle.dq_tables.specs.declared.row.Kind.TheVariants.{Entry}
 use Rattle.dq_tables.specs.declared.row.Row.{Row}
 use Rattle.dq_tables.specs.Rows.{Record, Place, record_place, Edit, Put, Remove, IsRising, record_of, rows_named, of, by, after, number_of_kind as kind_number, kind_order, octet_order, place_order, records_after_edits, edited_by, records_before, records_past}
-use Rattle.dq_tables.specs.Finding.{record_at, same_kind}
+use Rattle.dq_tables.specs.Lookups.{record_at, same_kind}
 use Rattle.dq_tables.specs.Keys.{entry_id}
 use Rattle.dq_tables.specs.Records.{data_set_of}
-use Rattle.dq_tables.specs.Serving.{first_refusal}
+use Rattle.dq_tables.specs.ServiceEffects.{first_refusal}
 use Rattle.dq_tables.proofs.InOrder.{is_eq_then, is_eq_nat}
 use Rattle.dq_tables.proofs.Lens.{others}
 use Rattle.dq_worklist.specs.declared.refusal.Refusal.{Refusal}
@@ -47,7 +47,7 @@ pub refused_schedules_nothing : (limits : Limits) (records : List Record) (octet
     → schedule_outcome limits records octets ≡ (Some number, edits) → edits ≡ []
 unfolding schedule_outcome
 refused_schedules_nothing limits records octets number edits e =
-    outcome_refused (first_refusal (refusals limits records octets (reading Explicit octets))) (read_order (reading Explicit octets)) number edits e
+    outcome_refused (first_refusal (refusals limits records octets (data_set_read Explicit octets))) (read_order (data_set_read Explicit octets)) number edits e
 
 pub refused_withdraws_nothing : (records : List Record) (id : List ℕ) (number : ℕ) (edits : List Edit)
     → withdrawn records id ≡ (Some number, edits) → edits ≡ []
@@ -62,10 +62,10 @@ outcome_accepted None (Some other) order edits same e =
     sym (ap (λ (x : Option ℕ × List Edit). x.1) e) ∙ (let one : other ≡ order = cc in ap (λ (o : Order). Put (entry_of o) ∷ []) one)
 
 pub accepted_is_put : (limits : Limits) (records : List Record) (octets : List ℕ) (edits : List Edit) (order : Order)
-    → schedule_outcome limits records octets ≡ (None, edits) → read_order (reading Explicit octets) ≡ Some order → edits ≡ Put (entry_of order) ∷ []
+    → schedule_outcome limits records octets ≡ (None, edits) → read_order (data_set_read Explicit octets) ≡ Some order → edits ≡ Put (entry_of order) ∷ []
 unfolding schedule_outcome
 accepted_is_put limits records octets edits order e same =
-    outcome_accepted (first_refusal (refusals limits records octets (reading Explicit octets))) (read_order (reading Explicit octets)) order edits same e
+    outcome_accepted (first_refusal (refusals limits records octets (data_set_read Explicit octets))) (read_order (data_set_read Explicit octets)) order edits same e
 
 withdrawn_is : (records : List Record) (id : List ℕ) (edits : List Edit) → withdrawn records id ≡ (None, edits) → edits ≡ Remove Entry id ∷ []
 unfolding withdrawn
@@ -124,7 +124,7 @@ put_there order records =
     found_between (stands_at p) (records_before p records) (entry_of order) (records_past p records) ((bytes_eq-Decides order.id order.id).1 refl)
 
 pub scheduled_is_there : (limits : Limits) (records : List Record) (octets : List ℕ) (edits : List Edit) (order : Order)
-    → schedule_outcome limits records octets ≡ (None, edits) → read_order (reading Explicit octets) ≡ Some order → has_entry (records_after_edits edits records) order.id ≡ true
+    → schedule_outcome limits records octets ≡ (None, edits) → read_order (data_set_read Explicit octets) ≡ Some order → has_entry (records_after_edits edits records) order.id ≡ true
 scheduled_is_there limits records octets edits order e same =
     ap (λ (es : List Edit). has_entry (records_after_edits es records) order.id) (accepted_is_put limits records octets edits order e same) ∙ put_there order records
 
@@ -144,8 +144,8 @@ module _ (keys : ElementList) where
       match_shown (edited_by (Put (entry_of order)) records) keys (entry_of order) (record { kept = among; kind = refl; waiting = refl; fit = fit })
 
   pub scheduled_is_answered : (limits : Limits) (records : List Record) (octets : List ℕ) (edits : List Edit) (order : Order)
-      → reading Explicit (canonical Explicit order.elements) ≡ Ok order.elements → schedule_outcome limits records octets ≡ (None, edits)
-      → read_order (reading Explicit octets) ≡ Some order → fits keys order.elements ≡ true
+      → data_set_read Explicit (canonical Explicit order.elements) ≡ Ok order.elements → schedule_outcome limits records octets ≡ (None, edits)
+      → read_order (data_set_read Explicit octets) ≡ Some order → fits keys order.elements ≡ true
       → IsAmong (shown_data_set keys order.elements) (answers_of_entries (records_after_edits edits records) keys)
   unfolding data_set_of
   scheduled_is_answered limits records octets edits order back e same fit =

@@ -12,24 +12,24 @@ use Rattle.dq_dataset.specs.declared.fault.ReadFault.{ReadFault}
 use Rattle.dq_dataset.specs.declared.header.Syntax.TheVariants.{Explicit}
 use Rattle.dq_dataset.specs.Tree.{ElementList}
 use Rattle.dq_dataset.specs.Facts.{IsDataSet}
-use Rattle.dq_dataset.specs.Reading.{reading}
+use Rattle.dq_dataset.specs.DataSetReader.{data_set_read}
 use Rattle.dq_dataset.specs.Values.{sole_at}
 use Rattle.dq_dataset.proofs.KnownVrs.{read_has_known_inside, facts_give_known_inside}
 use Rattle.dq_match.specs.Matching.{fits}
 use Rattle.dq_match.specs.Responses.{shown_data_set}
 use Rattle.dq_match.specs.Answers.{answer_to_keys}
-use Rattle.dq_match.specs.Several.{is_plain}
+use Rattle.dq_match.specs.SeveralValues.{is_plain}
 use Rattle.dq_match.proofs.Answering.{given_of_each, given_skipped}
 use Rattle.dq_tables.specs.declared.row.Kind.{Kind}
 use Rattle.dq_tables.specs.declared.row.Kind.TheVariants.{Entry}
 use Rattle.dq_tables.specs.declared.row.Row.{Row}
 use Rattle.dq_tables.specs.Rows.{Record, record_of, row_of, of}
-use Rattle.dq_tables.specs.Finding.{record_at, records_of, waiting_among}
+use Rattle.dq_tables.specs.Lookups.{record_at, records_of, waiting_among}
 use Rattle.dq_tables.specs.Records.{data_set_of}
 use Rattle.dq_tables.specs.Keys.{is_id, sole_item_at, id_of, id_in, entry_id}
 use Rattle.dq_tables.specs.Sound.{IsSound, is_own_row, is_record_of, may_be_started, has_key}
-use Rattle.dq_tables.proofs.Listing.{of_kind_from, listed_in_order}
-use Rattle.dq_archive.proofs.Named.{only_named}
+use Rattle.dq_tables.proofs.RecordLists.{of_kind_from, listed_in_order}
+use Rattle.dq_archive.proofs.UniqueKeys.{only_named}
 use Rattle.dq_archive.proofs.OwnRecords.{of_each, passed, value_from}
 use Rattle.dq_worklist.specs.Candidates.{id_asked_in, id_asked, entries_with, entry_candidates, entry_answer}
 use Rattle.dq_worklist.specs.Queries.{answers_of_entries}
@@ -59,7 +59,7 @@ held_by d id (Some step) is h =
 abbrev HasOwnId : Record → Type 0
 HasOwnId r = AllKnownInside (data_set_of r.octets) × (has_key r.kind r.key (data_set_of r.octets) ≡ true)
 
-own_by : (read : Result ElementList ReadFault) (row : Row) → reading Explicit row.octets ≡ read → is_record_of read row ≡ true
+own_by : (read : Result ElementList ReadFault) (row : Row) → data_set_read Explicit row.octets ≡ read → is_record_of read row ≡ true
     → HasOwnId (record_of row)
 unfolding data_set_of
 own_by (Err fault) row is own = absurd cc
@@ -68,8 +68,8 @@ own_by (Ok d) row is own = grind (arith, and_parts, read_has_known_inside)
 row_own : (row : Row) → is_own_row row ≡ true → HasOwnId (record_of row)
 unfolding is_own_row
 row_own row own =
-    own_by (reading Explicit row.octets) row refl
-    (and_parts (may_be_started row.kind row.started) (is_record_of (reading Explicit row.octets) row) own).1
+    own_by (data_set_read Explicit row.octets) row refl
+    (and_parts (may_be_started row.kind row.started) (is_record_of (data_set_read Explicit row.octets) row) own).1
 
 entry_step : (r : Record) → r.kind ≡ Entry → has_key r.kind r.key (data_set_of r.octets) ≡ true → HasStep scheduled_procedure_step_id (data_set_of r.octets) r.key
 unfolding has_key entry_id

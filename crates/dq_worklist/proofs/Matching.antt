@@ -22,10 +22,10 @@ use Rattle.dq_tables.specs.declared.row.Kind.TheVariants.{Entry}
 use Rattle.dq_tables.specs.declared.row.Row.{Row}
 use Rattle.dq_tables.specs.Rows.{Record, IsRising, of}
 use Rattle.dq_tables.specs.Records.{data_set_of}
-use Rattle.dq_tables.specs.Finding.{records_of, waiting_among}
-use Rattle.dq_tables.proofs.Rising.{one_list}
-use Rattle.dq_tables.proofs.Listing.{of_kind_from, of_kind_to, listed_in_order, in_order_filter}
-use Rattle.dq_worklist.specs.declared.asking.Query.{Query}
+use Rattle.dq_tables.specs.Lookups.{records_of, waiting_among}
+use Rattle.dq_tables.proofs.RisingLists.{one_list}
+use Rattle.dq_tables.proofs.RecordLists.{of_kind_from, of_kind_to, listed_in_order, in_order_filter}
+use Rattle.dq_worklist.specs.declared.worklist_query.Query.{Query}
 use Rattle.dq_worklist.specs.Answers.{MatchesKeys, AreEntryAnswers}
 use Rattle.dq_worklist.specs.Queries.{worklist_identifier_query, worklist_query, answers_of_entries, listed_by, worklist_outcome}
 use Rattle.dq_worklist.proofs.Queries.{listed_answers}

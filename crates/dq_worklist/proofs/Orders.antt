@@ -4,13 +4,13 @@ use Rattle.std.specs.Result.{result_ok}
 use Rattle.dq_dataset.specs.declared.fault.ReadFault.{ReadFault}
 use Rattle.dq_dataset.specs.declared.header.Syntax.TheVariants.{Explicit}
 use Rattle.dq_dataset.specs.Tree.{ElementList}
-use Rattle.dq_dataset.specs.Reading.{reading}
+use Rattle.dq_dataset.specs.DataSetReader.{data_set_read}
 use Rattle.dq_dataset.specs.Grammar.{IsSpelled}
 use Rattle.dq_dataset.proofs.SpelledIsShort.{spelled_is_short}
 use Rattle.dq_config.specs.Limits.{Limits}
 use Rattle.dq_tables.specs.declared.row.Kind.TheVariants.{Entry}
 use Rattle.dq_tables.specs.Rows.{Record, Put, Remove}
-use Rattle.dq_tables.specs.Serving.{first_refusal}
+use Rattle.dq_tables.specs.ServiceEffects.{first_refusal}
 use Rattle.dq_worklist.specs.declared.refusal.Refusal.{Refusal}
 use Rattle.dq_worklist.specs.declared.refusal.Refusal.TheVariants.{Taken, Full}
 use Rattle.dq_worklist.specs.Orders.{refusal_number, Order, order_in, order_limit, has_entry, is_worklist_full, entry_of, refusal_or_entry, order_outcome, schedule_outcome, withdrawn}
@@ -49,7 +49,7 @@ module _ (limits : Limits) (records : List Record) where
   unfolding order_outcome
   order_kept order e = ap (λ (o : Option Refusal). refusal_or_entry o (Some order)) e
 
-  malformed_by : (octets : List ℕ) (long : Bool) (r : Result ElementList ReadFault) → nat_lt order_limit (length octets) ≡ long → reading Explicit octets ≡ r
+  malformed_by : (octets : List ℕ) (long : Bool) (r : Result ElementList ReadFault) → nat_lt order_limit (length octets) ≡ long → data_set_read Explicit octets ≡ r
       → (if long then None else result_ok r) ≡ None → schedule_outcome limits records octets ≡ (Some 1, [])
   unfolding schedule_outcome
   malformed_by octets true r e same none = rw e refl
@@ -57,10 +57,10 @@ module _ (limits : Limits) (records : List Record) where
   malformed_by octets false (Err fault) e same none = rw (e, same) refl
 
   pub malformed : (octets : List ℕ) → data_set_within octets ≡ None → schedule_outcome limits records octets ≡ (Some 1, [])
-  malformed octets none = malformed_by octets (nat_lt order_limit (length octets)) (reading Explicit octets) refl refl none
+  malformed octets none = malformed_by octets (nat_lt order_limit (length octets)) (data_set_read Explicit octets) refl refl none
 
   incomplete_by : (octets : List ℕ) (d : ElementList) (long : Bool) (r : Result ElementList ReadFault)
-      → nat_lt order_limit (length octets) ≡ long → reading Explicit octets ≡ r
+      → nat_lt order_limit (length octets) ≡ long → data_set_read Explicit octets ≡ r
       → (if long then None else result_ok r) ≡ Some d → order_in d ≡ None → schedule_outcome limits records octets ≡ (Some 2, [])
   unfolding schedule_outcome
   incomplete_by octets d true r e same some none = cc
@@ -68,10 +68,10 @@ module _ (limits : Limits) (records : List Record) where
   incomplete_by octets d false (Err fault) e same some none = cc
 
   pub incomplete : (octets : List ℕ) (d : ElementList) → data_set_within octets ≡ Some d → order_in d ≡ None → schedule_outcome limits records octets ≡ (Some 2, [])
-  incomplete octets d some none = incomplete_by octets d (nat_lt order_limit (length octets)) (reading Explicit octets) refl refl some none
+  incomplete octets d some none = incomplete_by octets d (nat_lt order_limit (length octets)) (data_set_read Explicit octets) refl refl some none
 
   complete_by : (octets : List ℕ) (d : ElementList) (order : Order) (long : Bool) (r : Result ElementList ReadFault) → nat_lt order_limit (length octets) ≡ long
-      → reading Explicit octets ≡ r → (if long then None else result_ok r) ≡ Some d → order_in d ≡ Some order
+      → data_set_read Explicit octets ≡ r → (if long then None else result_ok r) ≡ Some d → order_in d ≡ Some order
       → schedule_outcome limits records octets ≡ order_outcome limits records order
   unfolding schedule_outcome order_outcome
   complete_by octets d order true r e same some found = cc
@@ -80,7 +80,7 @@ module _ (limits : Limits) (records : List Record) where
 
   pub complete : (octets : List ℕ) (d : ElementList) (order : Order) → data_set_within octets ≡ Some d → order_in d ≡ Some order
       → schedule_outcome limits records octets ≡ order_outcome limits records order
-  complete octets d order some found = complete_by octets d order (nat_lt order_limit (length octets)) (reading Explicit octets) refl refl some found
+  complete octets d order some found = complete_by octets d order (nat_lt order_limit (length octets)) (data_set_read Explicit octets) refl refl some found
 
 pub not_there : (records : List Record) (id : List ℕ) → has_entry records id ≡ false → withdrawn records id ≡ (Some 5, [])
 unfolding withdrawn

@@ -8,7 +8,7 @@ use Rattle.dq_dimse.specs.Receiving.{identifier_in}
 use Rattle.dq_dimse.specs.Statuses.{success}
 use Rattle.dq_tables.specs.declared.row.Row.{Row}
 use Rattle.dq_tables.specs.Rows.{Record, record_of}
-use Rattle.dq_worklist.specs.declared.asking.Query.{Query}
+use Rattle.dq_worklist.specs.declared.worklist_query.Query.{Query}
 use Rattle.dq_worklist.specs.Candidates.{entry_answer}
 use Rattle.dq_worklist.specs.Queries.{worklist_identifier_query, worklist_query, answers_of_entries, listed_by, worklist_outcome, keys_outcome}
 

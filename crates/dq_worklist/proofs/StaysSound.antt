@@ -8,7 +8,7 @@ use Rattle.dq_list.proofs.Readers.{provided_some}
 use Rattle.dq_dataset.specs.declared.fault.ReadFault.{ReadFault}
 use Rattle.dq_dataset.specs.declared.header.Syntax.TheVariants.{Explicit}
 use Rattle.dq_dataset.specs.Tree.{ElementList}
-use Rattle.dq_dataset.specs.Reading.{reading}
+use Rattle.dq_dataset.specs.DataSetReader.{data_set_read}
 use Rattle.dq_dataset.specs.Canonical.{canonical}
 use Rattle.dq_config.specs.Limits.{Limits}
 use Rattle.dq_tables.specs.declared.change.Change.TheVariants.{EntryAdded, EntryRemoved}
@@ -19,7 +19,7 @@ use Rattle.dq_tables.specs.Keys.{entry_id}
 use Rattle.dq_tables.specs.Sound.{IsSound}
 use Rattle.dq_tables.proofs.Order.{each_appended, each_filtered, is_before, is_past}
 use Rattle.dq_tables.proofs.Soundness.{change_sound}
-use Rattle.dq_archive.proofs.Looking.{there_own, free_own}
+use Rattle.dq_archive.proofs.Lookups.{there_own, free_own}
 use Rattle.dq_worklist.specs.declared.refusal.Refusal.TheVariants.{Taken, Full}
 use Rattle.dq_worklist.specs.Orders.{Order, order_in, order_limit, is_complete, has_entry, is_worklist_full, entry_of, order_outcome, schedule_outcome, withdrawn}
 use Rattle.dq_worklist.specs.Views.{order_of, CanBeKept, data_set_within}
@@ -29,14 +29,14 @@ use Rattle.dq_worklist.proofs.Records.{new_fits}
 -- ---- what is read of an order
 
 module _ (octets : List ℕ) (d : ElementList) where
-  within_by : (long : Bool) (r : Result ElementList ReadFault) → nat_lt order_limit (length octets) ≡ long → reading Explicit octets ≡ r
-      → (if long then None else result_ok r) ≡ Some d → (length octets ≤ 0x100000) × (reading Explicit octets ≡ Ok d)
+  within_by : (long : Bool) (r : Result ElementList ReadFault) → nat_lt order_limit (length octets) ≡ long → data_set_read Explicit octets ≡ r
+      → (if long then None else result_ok r) ≡ Some d → (length octets ≤ 0x100000) × (data_set_read Explicit octets ≡ Ok d)
   within_by true r e read some = cc
   within_by false (Ok x) e read some = (let one : x ≡ d = cc in (grind (arith, nat_tests), read ∙ (λ i. Ok (one i))))
   within_by false (Err fault) e read some = cc
 
-  pub read_within : data_set_within octets ≡ Some d → (length octets ≤ 0x100000) × (reading Explicit octets ≡ Ok d)
-  read_within some = within_by (nat_lt order_limit (length octets)) (reading Explicit octets) refl refl some
+  pub read_within : data_set_within octets ≡ Some d → (length octets ≤ 0x100000) × (data_set_read Explicit octets ≡ Ok d)
+  read_within some = within_by (nat_lt order_limit (length octets)) (data_set_read Explicit octets) refl refl some
 
 own_by : (d : ElementList) (order : Order) (id : Option (List ℕ)) → entry_id d ≡ id → id >>= (λ i. only_if (is_complete d) (order_of d i)) ≡ Some order
     → (own : List ℕ) × (entry_id d ≡ Some own) × (order_of d own ≡ order)
@@ -101,7 +101,7 @@ module _ (P : List Row → Type 0) (h : List ℕ) (rows : List Row) (holds : P r
 -- ---- that they are sound
 
 module _ (h : List ℕ) (rows : List Row) (sound : IsSound rows) (id : List ℕ) where
-  pub put_sound : (d : ElementList) → CanBeKept d → reading Explicit (canonical Explicit d) ≡ Ok d → entry_id d ≡ Some id
+  pub put_sound : (d : ElementList) → CanBeKept d → data_set_read Explicit (canonical Explicit d) ≡ Ok d → entry_id d ≡ Some id
       → has_entry (of h rows) id ≡ false → IsSound (after (by h (Put (entry_of (order_of d id)) ∷ [])) rows)
   put_sound d kept back own free =
       change_sound rows (EntryAdded (row_of h (entry_of (order_of d id)))) sound (new_fits h d id back kept.short own rows (free_own Entry h id rows free))

@@ -19,8 +19,8 @@ use Rattle.dq_match.specs.declared.keys.Nesting.{Nesting}
 use Rattle.dq_match.specs.declared.keys.Nesting.TheVariants.{Outer, Inner}
 use Rattle.dq_match.specs.Keys.{items_in}
 use Rattle.dq_match.specs.Matching.{period, is_matched_elsewhere, items_meet, all_met, fits, meets}
-use Rattle.dq_match.specs.Fitting.{EachIsMet, PeriodIsMet, SomeItemFits}
-use Rattle.dq_match.specs.Several.{is_plain}
+use Rattle.dq_match.specs.StandardMatching.{EachIsMet, PeriodIsMet, SomeItemFits}
+use Rattle.dq_match.specs.SeveralValues.{is_plain}
 use Rattle.dq_tables.specs.Keys.{sole_item_of, sole_item_at}
 use Rattle.dq_match.proofs.Alone.{not_passed}
 use Rattle.dq_match.proofs.OneValue.{same_tag, sole_is, found_has, plain_short, one_met}

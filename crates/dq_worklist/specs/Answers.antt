@@ -1,4 +1,4 @@
--- What is said of the answers to a worklist query: of which entries they are (PS3.4 section K.4.1).
+-- The answers to a worklist query: which entries they are of (PS3.4 section K.4.1).
 use Rattle.std.specs.Prelude.{◌≡◌, ◌↔◌, true, false, List, map}
 use Rattle.dq_list.specs.Among.{IsAmong}
 use Rattle.dq_dataset.specs.Tree.{ElementList}

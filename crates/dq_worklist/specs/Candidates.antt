@@ -6,11 +6,11 @@ use Rattle.dq_vr.specs.Tags.{scheduled_procedure_step_sequence, scheduled_proced
 use Rattle.dq_dataset.specs.Tree.{ElementList}
 use Rattle.dq_dataset.specs.Values.{sole_at}
 use Rattle.dq_match.specs.Answers.{answer_to_keys}
-use Rattle.dq_match.specs.Several.{is_plain}
+use Rattle.dq_match.specs.SeveralValues.{is_plain}
 use Rattle.dq_tables.specs.declared.row.Kind.TheVariants.{Entry}
 use Rattle.dq_tables.specs.Keys.{value_passing, sole_item_at}
 use Rattle.dq_tables.specs.Rows.{Record}
-use Rattle.dq_tables.specs.Finding.{record_at, waiting_among}
+use Rattle.dq_tables.specs.Lookups.{record_at, waiting_among}
 use Rattle.dq_tables.specs.Records.{data_set_of}
 
 abbrev pub id_asked_in : Option ElementList → Option (List ℕ)

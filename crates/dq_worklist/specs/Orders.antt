@@ -10,15 +10,15 @@ use Rattle.dq_value.specs.Time.{span}
 use Rattle.dq_dataset.specs.declared.fault.ReadFault.{ReadFault}
 use Rattle.dq_dataset.specs.declared.header.Syntax.TheVariants.{Explicit}
 use Rattle.dq_dataset.specs.Tree.{ElementList}
-use Rattle.dq_dataset.specs.Reading.{reading}
+use Rattle.dq_dataset.specs.DataSetReader.{data_set_read}
 use Rattle.dq_dataset.specs.Canonical.{canonical}
 use Rattle.dq_dataset.specs.Values.{element_at, values_in, sole_at}
 use Rattle.dq_dimse.specs.Limits.{other_limit}
 use Rattle.dq_config.specs.Limits.{Limits}
 use Rattle.dq_tables.specs.declared.row.Kind.TheVariants.{Entry}
 use Rattle.dq_tables.specs.Rows.{Record, Edit, Put, Remove}
-use Rattle.dq_tables.specs.Finding.{record_at, records_of}
-use Rattle.dq_tables.specs.Serving.{first_refusal, refusal_or}
+use Rattle.dq_tables.specs.Lookups.{record_at, records_of}
+use Rattle.dq_tables.specs.ServiceEffects.{first_refusal, refusal_or}
 use Rattle.dq_tables.specs.Keys.{uid_at, sole_item_at, entry_id}
 use Rattle.dq_worklist.specs.declared.refusal.Refusal.{Refusal}
 use Rattle.dq_worklist.specs.declared.refusal.Refusal.TheVariants.{Malformed, Incomplete, Taken, Full, NoSuchEntry}
@@ -102,7 +102,7 @@ entry_of order = record {
   started = false;
 }
 
--- What is complete becomes an entry, and nothing is answered.
+-- A complete order becomes an entry, and no refusal is answered.
 abbrev pub entry_added : Option Order → Option ℕ × List Edit
 entry_added None = (Some (refusal_number Incomplete), [])
 entry_added (Some order) = (None, Put (entry_of order) ∷ [])
@@ -119,7 +119,7 @@ order_outcome limits records order =
 
 unfoldable pub schedule_outcome : Limits → List Record → List ℕ → Option ℕ × List Edit
 schedule_outcome limits records octets =
-    let data_set = reading Explicit octets in
+    let data_set = data_set_read Explicit octets in
     refusal_or_entry (first_refusal (refusals limits records octets data_set)) (read_order data_set)
 
 -- ---- withdrawing

@@ -14,8 +14,8 @@ use Rattle.dq_match.specs.Supported.{supported_part, has_unsupported}
 use Rattle.dq_match.specs.Answers.{refused_with, answer_to_keys}
 use Rattle.dq_tables.specs.Rows.{Record}
 use Rattle.dq_tables.specs.Records.{data_set_of}
-use Rattle.dq_tables.specs.Finding.{waiting_among}
-use Rattle.dq_worklist.specs.declared.asking.Query.{Query}
+use Rattle.dq_tables.specs.Lookups.{waiting_among}
+use Rattle.dq_worklist.specs.declared.worklist_query.Query.{Query}
 
 -- what an identifier asks for: its supported keys, with well-formed values
 abbrev pub keys_query : ElementList → Result Query ℕ

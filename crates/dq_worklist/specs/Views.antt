@@ -4,11 +4,11 @@ use Rattle.std.specs.Result.{result_ok}
 use Rattle.dq_dataset.specs.declared.header.Syntax.TheVariants.{Explicit}
 use Rattle.dq_dataset.specs.Tree.{ElementList}
 use Rattle.dq_dataset.specs.Canonical.{canonical, HasLengths}
-use Rattle.dq_dataset.specs.Reading.{reading}
+use Rattle.dq_dataset.specs.DataSetReader.{data_set_read}
 use Rattle.dq_config.specs.Limits.{Limits}
 use Rattle.dq_tables.specs.Rows.{Record}
 use Rattle.dq_tables.specs.Sound.{entry_limit}
-use Rattle.dq_tables.specs.Serving.{first_refusal}
+use Rattle.dq_tables.specs.ServiceEffects.{first_refusal}
 use Rattle.dq_worklist.specs.declared.completeness.Order.{Order as TheOrder}
 use Rattle.dq_worklist.specs.declared.refusal.Refusal.{Refusal}
 use Rattle.dq_worklist.specs.declared.refusal.Refusal.TheVariants.{Taken, Full}
@@ -28,7 +28,7 @@ pub record CanBeKept (d : ElementList) : Type 0 where
 -- the data set of an order that is not too long
 abbrev pub data_set_within : List ℕ → Option ElementList
 data_set_within octets =
-    if nat_lt order_limit (length octets) then None else result_ok (reading Explicit octets)
+    if nat_lt order_limit (length octets) then None else result_ok (data_set_read Explicit octets)
 
 -- the refusal of an order with the id because of what is kept
 abbrev pub record_refusal : Limits → List Record → List ℕ → Option Refusal

@@ -5,7 +5,7 @@ ghost use Rattle.dq_list.specs.Octets.{AreOctets};
 ghost use Rattle.dq_dataset.specs.declared.header.Syntax.{Syntax};
 ghost use Rattle.dq_dataset.specs.declared.header.Syntax.TheVariants.{Explicit};
 ghost use Rattle.dq_dataset.specs.Tree.{ElementList};
-ghost use Rattle.dq_dataset.specs.Reading.{reading};
+ghost use Rattle.dq_dataset.specs.DataSetReader.{data_set_read};
 ghost use Rattle.dq_dataset.specs.Facts.{IsDataSet};
 ghost use Rattle.dq_list.specs.Among.{IsAmong};
 ghost use Rattle.dq_dimse.specs.Statuses.{success};
@@ -23,7 +23,7 @@ ghost use Rattle.dq_worklist.specs.Orders.{Order, read_order, has_entry, schedul
 ghost use Rattle.dq_worklist.specs.Answers.{AreEntryAnswers};
 ghost use Rattle.dq_worklist.specs.Examples.{worklist_request, asked_steps, entry, example_answer, found_entries};
 ghost use Rattle.dq_worklist.specs.Queries.{worklist_query, answers_of_entries, worklist_outcome, keys_outcome};
-ghost use Rattle.dq_worklist.specs.declared.asking.Query.{Query};
+ghost use Rattle.dq_worklist.specs.declared.worklist_query.Query.{Query};
 
 use dq_dataset::laws::{spelling_law, written_law};
 
@@ -97,16 +97,16 @@ pub fn orders_of_institutions_are_apart()
         → of other (after (by own (withdrawn (of own rows) id).1) rows) ≡ of other rows }
 {}
 
-/// What is scheduled is an entry, and is among the answers to the keys that it fits.
+/// A scheduled order is an entry, and is among the answers to the keys that it fits.
 pub fn what_is_scheduled_is_found()
     ensures there { (limits : Limits) (records : List Record) (octets : List ℕ)
         (edits : List Edit) (order : Order) → schedule_outcome limits records octets ≡ (None, edits)
-        → read_order (reading Explicit octets) ≡ Some order
+        → read_order (data_set_read Explicit octets) ≡ Some order
         → has_entry (records_after_edits edits records) order.id ≡ true }
     ensures found { (limits : Limits) (records : List Record) (octets : List ℕ)
         (edits : List Edit) (order : Order) (keys : ElementList)
         → AreOctets octets → schedule_outcome limits records octets ≡ (None, edits)
-        → read_order (reading Explicit octets) ≡ Some order → fits keys order.elements ≡ true
+        → read_order (data_set_read Explicit octets) ≡ Some order → fits keys order.elements ≡ true
         → IsAmong (shown_data_set keys order.elements) (answers_of_entries (records_after_edits edits records) keys) }
 {
     spelling_law();
@@ -160,8 +160,8 @@ pub fn rows_hold_data_sets()
     written_law();
 }
 
-/// What holds of each row, and of any entry, holds of each row afterwards: orders leave the rows of
-/// studies, series, images and steps.
+/// A property of each row, and of any entry, holds of each row afterwards: orders leave the rows
+/// of studies, series, images and steps.
 pub fn rows_of_other_kinds_stay()
     ensures scheduled { (holds : Row → Bool)
         → ((row : Row) → row.kind ≡ Entry → holds row ≡ true)

@@ -2,13 +2,13 @@
 //! annex K).
 #![tactic(auto)]
 
-mod answering;
-mod asking;
 mod completeness;
+mod entry_orders;
 pub mod laws;
+mod query_answers;
 mod refusal;
-mod scheduling;
+mod worklist_query;
 
-pub use answering::{query, query_by_keys};
+pub use entry_orders::{schedule, withdraw};
+pub use query_answers::{query, query_by_keys};
 pub use refusal::Refusal;
-pub use scheduling::{schedule, withdraw};

@@ -27,7 +27,7 @@ use Rattle.dq_tables.specs.declared.row.Row.{Row}
 use Rattle.dq_tables.specs.Rows.{Record, of}
 use Rattle.dq_tables.specs.Sound.{IsSound}
 use Rattle.dq_core.specs.declared.event.Event.{Event}
-use Rattle.dq_core.specs.Services.{Response, Responses, responses, pending_response, pending_responses, operation_named, operation_outcome, outcome_of, message_outcome, served}
+use Rattle.dq_core.specs.Services.{Response, Responses, responses, pending_response, pending_responses, operation_named, operation_outcome, outcome_of, message_outcome, service_of_message}
 use Rattle.dq_core.specs.declared.dimse_operation.DimseOperation.{DimseOperation}
 use Rattle.dq_core.specs.declared.dimse_operation.DimseOperation.TheVariants.{Echo, Store, FindStudies, FindEntries, CreateStep, SetStep}
 use Rattle.dq_core.specs.Searches.{AreAnswersOf, AreExact}
@@ -94,13 +94,13 @@ module _ (limits : Limits) (records : List Record) (a : Agreement) (message : Me
 
   -- responses are of what was found
   pub responses-are : (r : Responses) (b : Bool) → (message.command.code == c_cancel) ≡ b → context_of a message.context ≡ Some context
-      → (served limits records a message).responses ≡ Some r → r ≡ responses context message.command found_on
-  unfolding served
+      → (service_of_message limits records a message).responses ≡ Some r → r ≡ responses context message.command found_on
+  unfolding service_of_message
   responses-are r true h on e =
-      let computed : (served limits records a message).responses ≡ None = rw h refl in
+      let computed : (service_of_message limits records a message).responses ≡ None = rw h refl in
       let both : None ≡ Some r = sym computed ∙ e in cc
   responses-are r false h on e =
-      let computed : (served limits records a message).responses ≡ Some (responses context message.command found_on) = rw (on, h) refl in
+      let computed : (service_of_message limits records a message).responses ≡ Some (responses context message.command found_on) = rw (on, h) refl in
       let both : Some r ≡ Some (responses context message.command found_on) = sym e ∙ computed in cc
 
   -- what an operation finds
@@ -187,7 +187,7 @@ module _ (studies : StudiesFound) (entries : EntriesFound) (institution : List �
       subst (λ (found : Found). AreAnswersOf (service_of context.class) context a.called own message (pending_responses context message.command found))
       (sym is.2) (exact-of (service_of context.class) is.0 is.1 (sym (ap (λ (found : Found). found.status) is.2) ∙ ok))
 
-  exact-responses : (r : Responses) → context_of a message.context ≡ Some context → (served limits own a message).responses ≡ Some r
+  exact-responses : (r : Responses) → context_of a message.context ≡ Some context → (service_of_message limits own a message).responses ≡ Some r
       → AreExact own a context message r
   exact-responses r on e =
       let is = responses-are limits own a message context r (message.command.code == c_cancel) refl on e in record {

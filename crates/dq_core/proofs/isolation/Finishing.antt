@@ -10,7 +10,7 @@ use Rattle.dq_assoc.specs.Table.{Sent, line, answer_octets}
 use Rattle.dq_config.specs.declared.config.Institution.{Institution}
 use Rattle.dq_config.specs.Limits.{limits_of}
 use Rattle.dq_tables.specs.Rows.{of}
-use Rattle.dq_core.specs.Services.{Response, Responses, served}
+use Rattle.dq_core.specs.Services.{Response, Responses, service_of_message}
 use Rattle.dq_core.specs.Pages.{page_length}
 use Rattle.dq_core.specs.Own.{Output, Octet, Close}
 use Rattle.dq_core.specs.Conversations.{Arrival, InputAt, PageRequest, ConnectionEnd, Next, Cancel, AnotherMessage, NoMessage, sequel, all_responses, responses_in_pages, responses_sent, response_octets_of, exchange, AreAllSent, AreFinished, without_page_requests}
@@ -26,7 +26,7 @@ in_full i a [] = []
 in_full i a (PageRequest ∷ later) = in_full i a later
 in_full i a (ConnectionEnd ∷ later) = []
 in_full i a (InputAt world (Sent m) ∷ later) =
-    map Octet (whole_octets a m (served (limits_of i) (of i.name world.rows) a m).responses) ++ in_full i a later
+    map Octet (whole_octets a m (service_of_message (limits_of i) (of i.name world.rows) a m).responses) ++ in_full i a later
 in_full i a (InputAt world input ∷ later) = map Octet (answer_octets (line Open Accept input).answer) ++ Close ∷ []
 
 held-whole : (r : Responses) (pages : ℕ) (instead : List Response) → nat_le (length r.pending) (pages * page_length) ≡ true
@@ -50,7 +50,7 @@ finished-full i a [] h = refl
 finished-full i a (PageRequest ∷ later) h = finished-full i a later h
 finished-full i a (ConnectionEnd ∷ later) h = refl
 finished-full i a (InputAt world (Sent m) ∷ later) h =
-    let o = (served (limits_of i) (of i.name world.rows) a m).responses in
+    let o = (service_of_message (limits_of i) (of i.name world.rows) a m).responses in
     ap (λ xs. map Octet xs ++ exchange i a later) (whole-sent a m (sequel m.command.id later) o h.0)
     ∙ ap (λ xs. map Octet (whole_octets a m o) ++ xs) (finished-full i a later h.1)
 finished-full i a (InputAt world input ∷ later) h = refl
@@ -60,7 +60,7 @@ full-without i a [] = refl
 full-without i a (PageRequest ∷ later) = full-without i a later
 full-without i a (ConnectionEnd ∷ later) = refl
 full-without i a (InputAt world (Sent m) ∷ later) =
-    ap (λ xs. map Octet (whole_octets a m (served (limits_of i) (of i.name world.rows) a m).responses) ++ xs) (full-without i a later)
+    ap (λ xs. map Octet (whole_octets a m (service_of_message (limits_of i) (of i.name world.rows) a m).responses) ++ xs) (full-without i a later)
 full-without i a (InputAt world input ∷ later) = refl
 
 pub cut-alike : (i : Institution) (a : Agreement) (xs ys : List Arrival) → AreFinished i a xs → AreFinished i a ys

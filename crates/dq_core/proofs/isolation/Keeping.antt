@@ -19,13 +19,13 @@ use Rattle.dq_config.specs.Limits.{Limits, limits_of}
 use Rattle.dq_config.specs.Routing.{institution_named}
 use Rattle.dq_tables.specs.declared.row.Row.{Row}
 use Rattle.dq_tables.specs.Rows.{Record, Edit, records_after_edits, Operation, by, of, after, after_all}
-use Rattle.dq_store.specs.Storing.{store_outcome}
+use Rattle.dq_store.specs.CStore.{store_outcome}
 use Rattle.dq_worklist.specs.Orders.{schedule_outcome, withdrawn}
-use Rattle.dq_mpps.specs.Creating.{create_outcome}
-use Rattle.dq_mpps.specs.Changing.{set_outcome}
+use Rattle.dq_mpps.specs.NCreate.{create_outcome}
+use Rattle.dq_mpps.specs.NSet.{set_outcome}
 use Rattle.dq_core.specs.declared.event.Event.{Event}
 use Rattle.dq_core.specs.declared.event.Event.TheVariants as event
-use Rattle.dq_core.specs.Services.{ConsoleOrder, Scheduling, Withdrawal, console_outcome, served, served_by, no_response, operation_named, operation_outcome, outcome_of, message_outcome}
+use Rattle.dq_core.specs.Services.{ConsoleOrder, Scheduling, Withdrawal, console_outcome, service_of_message, served_by, no_response, operation_named, operation_outcome, outcome_of, message_outcome}
 use Rattle.dq_core.specs.declared.dimse_operation.DimseOperation.{DimseOperation}
 use Rattle.dq_core.specs.declared.dimse_operation.DimseOperation.TheVariants.{Echo, Store, FindStudies, FindEntries, CreateStep, SetStep}
 use Rattle.dq_core.specs.Pages.{OpenQuery, Reaction, next_page, reaction, reaction_while, cancel_reaction, first_reaction, answered_message_id}
@@ -187,13 +187,13 @@ module _ (Good : List Row → Type 0) where
         agreement.called context.syntax message are
 
     served-by-kept : (agreement : Agreement) (message : Message) → AreOctets message.octets → (b : Bool) → (message.command.code == c_cancel) ≡ b
-        → Good (after (by name (served limits (of name rows) agreement message).edits) rows)
-    unfolding served
+        → Good (after (by name (service_of_message limits (of name rows) agreement message).edits) rows)
+    unfolding service_of_message
     served-by-kept agreement message are true h = rw h good
     served-by-kept agreement message are false h = rw h (on-kept (context_of agreement message.context) agreement message are)
 
     pub served-kept : (agreement : Agreement) (message : Message) → AreOctets message.octets
-        → Good (after (by name (served limits (of name rows) agreement message).edits) rows)
+        → Good (after (by name (service_of_message limits (of name rows) agreement message).edits) rows)
     served-kept agreement message are = served-by-kept agreement message are (message.command.code == c_cancel) refl
 
     pub ordered-kept : (order : ConsoleOrder) → HoldsOctets order → Good (after (by name (console_outcome limits (of name rows) order).edits) rows)
@@ -215,7 +215,7 @@ module _ (Good : List Row → Type 0) where
         → Keep name (reaction query limits (of name rows) agreement message).edits rows
     unfolding reaction
     reaction-kept query agreement message are =
-        while-kept query message (first_reaction agreement message (served limits (of name rows) agreement message))
+        while-kept query message (first_reaction agreement message (service_of_message limits (of name rows) agreement message))
         (message.command.code == c_cancel) refl (served-kept agreement message are)
 
   module _ (keep : ServicesKeep) (lens : Edits) (name : List ℕ) (limits : Limits) (verdict : Verdict) where

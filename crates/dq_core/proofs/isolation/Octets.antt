@@ -16,7 +16,7 @@ use Rattle.dq_pdu.specs.declared.role.Ending.TheVariants.{ReleaseAsked, AbortSen
 use Rattle.dq_pdu.specs.declared.fault.PduFault.{PduFault}
 use Rattle.dq_pdu.specs.Numbers.{longest_body, pdv_header}
 use Rattle.dq_pdu.specs.Octets.{successive_parts}
-use Rattle.dq_pdu.specs.Reading.{front, pdu_of, pdv_at, data_pdu_of, request_of, accept_of, body_length, is_unrecognized, whole_or_malformed}
+use Rattle.dq_pdu.specs.PduReader.{front, pdu_of, pdv_at, data_pdu_of, request_of, accept_of, body_length, is_unrecognized, whole_or_malformed}
 use Rattle.dq_pdu.specs.Stream.{Pdus, pdus_from, pdus_within, pdus_in}
 use Rattle.dq_pdu.specs.Roles.{role_of}
 use Rattle.dq_dimse.specs.declared.command.Command.{Command}

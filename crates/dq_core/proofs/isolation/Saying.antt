@@ -12,7 +12,7 @@ use Rattle.dq_assoc.specs.After.{is_closed}
 use Rattle.dq_config.specs.declared.config.Institution.{Institution}
 use Rattle.dq_config.specs.Limits.{limits_of}
 use Rattle.dq_tables.specs.Rows.{Record, records_after_edits, of, by, after}
-use Rattle.dq_core.specs.Services.{served}
+use Rattle.dq_core.specs.Services.{service_of_message}
 use Rattle.dq_core.specs.Pages.{OpenQuery, reaction}
 use Rattle.dq_core.specs.Answers.{Progress, Answer, input_answers, line_answer, then_answer, verdict_at}
 use Rattle.dq_core.specs.Owners.{live_of}
@@ -71,7 +71,7 @@ open-said lens i a verdict (Sent m ∷ xs) world q later more =
     (open-said lens i a verdict xs next r.query later (message-more (limits_of i) records a m q more))
     in
     let after_it = unless x.close (still i a x.next.query later) in
-    let responses = response_octets_of a m (sequel m.command.id told) (served (limits_of i) records a m).responses in
+    let responses = response_octets_of a m (sequel m.command.id told) (service_of_message (limits_of i) records a m).responses in
     sym (append_assoc (map Octet (unsent q (InputAt world (Sent m) ∷ told))) (map Octet responses) (exchange i a told))
     ∙ ap (λ ys. ys ++ exchange i a told) (sym (map-append Octet (unsent q (InputAt world (Sent m) ∷ told)) responses))
     ∙ ap (λ ys. map Octet ys ++ exchange i a told) (message-sent (limits_of i) records a m q world told more)

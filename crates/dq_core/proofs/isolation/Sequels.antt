@@ -13,7 +13,7 @@ use Rattle.dq_assoc.specs.Negotiation.{context_of}
 use Rattle.dq_assoc.specs.Table.{Sent}
 use Rattle.dq_config.specs.Limits.{Limits}
 use Rattle.dq_tables.specs.Rows.{Record}
-use Rattle.dq_core.specs.Services.{Response, Responses, responses, message_outcome, no_response, served, served_by}
+use Rattle.dq_core.specs.Services.{Response, Responses, responses, message_outcome, no_response, service_of_message, served_by}
 use Rattle.dq_core.specs.Pages.{OpenQuery, page_length, answered_message_id, response_octets, responses_octets, rest, page, next_page, query_by, reaction, reaction_while, cancel_reaction, first_reaction}
 use Rattle.dq_core.specs.Shared.{World}
 use Rattle.dq_core.specs.Conversations.{Arrival, InputAt, PageRequest, Next, Cancel, AnotherMessage, NoMessage, sequel, all_responses, responses_in_pages, responses_sent, response_octets_of}
@@ -126,8 +126,8 @@ nothing-unsent (Some query) later more f = rw (f (answered_message_id query), mo
 
 module _ (limits : Limits) (records : List Record) (a : Agreement) (m : Message) where
   -- a C-CANCEL has no responses
-  none-served : (m.command.code == c_cancel) ≡ true → (served limits records a m).responses ≡ None
-  unfolding served
+  none-served : (m.command.code == c_cancel) ≡ true → (service_of_message limits records a m).responses ≡ None
+  unfolding service_of_message
   none-served h = rw h refl
 
   -- the final response has the message's id
@@ -139,16 +139,16 @@ module _ (limits : Limits) (records : List Record) (a : Agreement) (m : Message)
       let told = responses context m.command (message_outcome a context limits m records).0 in
       let same : told ≡ r = cc in sym (ap (λ (x : Responses). x.final.0.id) same)
 
-  id-by : (r : Responses) (b : Bool) → (m.command.code == c_cancel) ≡ b → (served limits records a m).responses ≡ Some r → r.final.0.id ≡ m.command.id
-  unfolding served
+  id-by : (r : Responses) (b : Bool) → (m.command.code == c_cancel) ≡ b → (service_of_message limits records a m).responses ≡ Some r → r.final.0.id ≡ m.command.id
+  unfolding service_of_message
   id-by r true h e = let none : None ≡ Some r = rw h at e in cc
   id-by r false h e = id-on (context_of a m.context) r (rw h at e)
 
-  id-served : (r : Responses) → (served limits records a m).responses ≡ Some r → r.final.0.id ≡ m.command.id
+  id-served : (r : Responses) → (service_of_message limits records a m).responses ≡ Some r → r.final.0.id ≡ m.command.id
   id-served r e = id-by r (m.command.code == c_cancel) refl e
 
   -- the first page of its responses, and what is sent after it
-  first-said : (later : List Arrival) (o : Option Responses) → (served limits records a m).responses ≡ o → let first = next_page (query_by a m o) in
+  first-said : (later : List Arrival) (o : Option Responses) → (service_of_message limits records a m).responses ≡ o → let first = next_page (query_by a m o) in
       response_octets_of a m (sequel m.command.id later) o ≡ first.octets ++ unsent first.query later
   first-said later None e = refl
   first-said later (Some r) e =
@@ -159,7 +159,7 @@ module _ (limits : Limits) (records : List Record) (a : Agreement) (m : Message)
   abbrev IsSent : Option OpenQuery → World → List Arrival → Type 0
   IsSent q world later =
       let r = reaction q limits records a m in
-      unsent q (InputAt world (Sent m) ∷ later) ++ response_octets_of a m (sequel m.command.id later) (served limits records a m).responses
+      unsent q (InputAt world (Sent m) ∷ later) ++ response_octets_of a m (sequel m.command.id later) (service_of_message limits records a m).responses
       ≡ r.octets ++ unsent r.query later
 
   cancel-sent : (query : OpenQuery) (world : World) (later : List Arrival) (b : Bool) → HasMore (Some query) → (m.command.code == c_cancel) ≡ true
@@ -172,7 +172,7 @@ module _ (limits : Limits) (records : List Record) (a : Agreement) (m : Message)
       → IsSent (Some query) world later
   unfolding reaction
   other-sent query world later more h =
-      let service = served limits records a m in
+      let service = service_of_message limits records a m in
       let first = next_page (query_by a m service.responses) in
       rw h (ap (λ xs. rest query ++ xs) (first-said later service.responses refl) ∙ sym (append_assoc (rest query) first.octets (unsent first.query later)))
 
@@ -183,7 +183,7 @@ module _ (limits : Limits) (records : List Record) (a : Agreement) (m : Message)
 
   pub message-sent : (q : Option OpenQuery) (world : World) (later : List Arrival) → HasMore q → IsSent q world later
   unfolding reaction
-  message-sent None world later more = first-said later (served limits records a m).responses refl
+  message-sent None world later more = first-said later (service_of_message limits records a m).responses refl
   message-sent (Some query) world later more = sent-at query world later (m.command.code == c_cancel) more refl
 
   -- and what is then open has pending responses left
@@ -193,11 +193,11 @@ module _ (limits : Limits) (records : List Record) (a : Agreement) (m : Message)
   cancel-more query false k more = rw k more
 
   more-while : (query : OpenQuery) (b : Bool) → (m.command.code == c_cancel) ≡ b → HasMore (Some query)
-      → HasMore (reaction_while (Some query) m (first_reaction a m (served limits records a m))).query
+      → HasMore (reaction_while (Some query) m (first_reaction a m (service_of_message limits records a m))).query
   more-while query true h more = rw h (cancel-more query (m.command.id == answered_message_id query) refl more)
-  more-while query false h more = rw h (next-more (query_by a m (served limits records a m).responses))
+  more-while query false h more = rw h (next-more (query_by a m (service_of_message limits records a m).responses))
 
   pub message-more : (q : Option OpenQuery) → HasMore q → HasMore (reaction q limits records a m).query
   unfolding reaction
-  message-more None more = next-more (query_by a m (served limits records a m).responses)
+  message-more None more = next-more (query_by a m (service_of_message limits records a m).responses)
   message-more (Some query) more = more-while query (m.command.code == c_cancel) refl more

@@ -7,7 +7,7 @@ use Rattle.dq_dataset.specs.declared.fault.ReadFault.{ReadFault}
 use Rattle.dq_dataset.specs.declared.header.Syntax.{Syntax}
 use Rattle.dq_dataset.specs.declared.header.Syntax.TheVariants.{Explicit}
 use Rattle.dq_dataset.specs.Tree.{ElementList, no_elements}
-use Rattle.dq_dataset.specs.Reading.{reading}
+use Rattle.dq_dataset.specs.DataSetReader.{data_set_read}
 use Rattle.dq_dataset.specs.Grammar.{IsSpelled}
 use Rattle.dq_dataset.specs.Facts.{IsDataSet}
 use Rattle.dq_config.specs.declared.config.Institution.{Institution}
@@ -28,19 +28,19 @@ none-sound = record { sound = record { rising = tt; own = tt; held = tt }; data_
 -- ---- octets of data sets
 
 abbrev ReadIsSpelled : Type 0
-ReadIsSpelled = (syntax : Syntax) (octets : List ℕ) (d : ElementList) → AreOctets octets → reading syntax octets ≡ Ok d → IsSpelled syntax octets d
+ReadIsSpelled = (syntax : Syntax) (octets : List ℕ) (d : ElementList) → AreOctets octets → data_set_read syntax octets ≡ Ok d → IsSpelled syntax octets d
 
 abbrev SpelledIsDataSet : Type 0
 SpelledIsDataSet = (syntax : Syntax) (octets : List ℕ) (d : ElementList) → IsSpelled syntax octets d → IsDataSet d
 
 read-data_set : ReadIsSpelled → SpelledIsDataSet → (octets : List ℕ) → AreOctets octets → (read : Result ElementList ReadFault)
-    → reading Explicit octets ≡ read → IsDataSet (result_unwrap_or read no_elements)
+    → data_set_read Explicit octets ≡ read → IsDataSet (result_unwrap_or read no_elements)
 read-data_set spelled facts octets are (Ok d) e = facts Explicit octets d (spelled Explicit octets d are e)
 read-data_set spelled facts octets are (Err fault) e = tt
 
 is-data_set : ReadIsSpelled → SpelledIsDataSet → (octets : List ℕ) → AreOctets octets → IsDataSet (data_set_of octets)
 unfolding data_set_of
-is-data_set spelled facts octets are = read-data_set spelled facts octets are (reading Explicit octets) refl
+is-data_set spelled facts octets are = read-data_set spelled facts octets are (data_set_read Explicit octets) refl
 
 each-holds : ReadIsSpelled → SpelledIsDataSet → (rows : List Row) → AllByRecursion (λ (row : Row). AreOctets row.octets) rows → HoldDataSets rows
 each-holds spelled facts [] are = tt

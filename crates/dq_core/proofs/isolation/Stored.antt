@@ -5,7 +5,7 @@ use Rattle.std.specs.Result.{result_unwrap_or}
 use Rattle.std.specs.Str.{bytes_eq}
 use Rattle.dq_list.specs.Octets.{AreOctets}
 use Rattle.dq_dataset.specs.declared.header.Syntax.{Syntax}
-use Rattle.dq_dataset.specs.Reading.{reading}
+use Rattle.dq_dataset.specs.DataSetReader.{data_set_read}
 use Rattle.dq_dataset.specs.Tree.{no_elements}
 use Rattle.dq_dimse.specs.CommandFields.{c_cancel, c_store}
 use Rattle.dq_dimse.specs.Received.{Message}
@@ -24,11 +24,11 @@ use Rattle.dq_tables.specs.declared.row.Row.{Row}
 use Rattle.dq_tables.specs.Rows.{Record, Edit, of, by, after}
 use Rattle.dq_tables.specs.Sound.{IsSound}
 use Rattle.dq_store.specs.Levels.{is_of_its_level, stands_whole}
-use Rattle.dq_store.specs.Storing.{instance_in, store_outcome}
+use Rattle.dq_store.specs.CStore.{instance_in, store_outcome}
 use Rattle.dq_core.specs.declared.event.Event.{Event}
 use Rattle.dq_core.specs.declared.event.Reply.{Reply}
 use Rattle.dq_core.specs.Runs.{IsRun}
-use Rattle.dq_core.specs.Services.{Responses, Served, served, served_by, operation_named, operation_outcome, outcome_of, message_outcome}
+use Rattle.dq_core.specs.Services.{Responses, Served, service_of_message, served_by, operation_named, operation_outcome, outcome_of, message_outcome}
 use Rattle.dq_core.specs.declared.dimse_operation.DimseOperation.{DimseOperation}
 use Rattle.dq_core.specs.declared.dimse_operation.DimseOperation.TheVariants.{Store}
 use Rattle.dq_core.specs.Soundness.{AreMade, BringOctets}
@@ -56,7 +56,7 @@ abbrev Says : ℕ → Bool → Type 0
 Says wanted b = (name : List ℕ) (limits : Limits) (rows : List Row) (message : Message) (syntax : Syntax) → AreOctets message.octets → IsSound rows
     → AllByRecursion (λ (row : Row). is_of_its_level row ≡ true) rows → (store_outcome limits (of name rows) message syntax).0 ≡ wanted
     → stands_whole (of name (after (by name (store_outcome limits (of name rows) message syntax).1) rows))
-    (instance_in (result_unwrap_or (reading syntax message.octets) no_elements)) ≡ b
+    (instance_in (result_unwrap_or (data_set_read syntax message.octets) no_elements)) ≡ b
 
 module _ (whole : Says success true) (discarded : Says elements_discarded false) (name : List ℕ) (rows : List Row) (limits : Limits) (a : Agreement)
     (message : Message) (are : AreOctets message.octets) (made : AreMade rows) (context : AcceptedContext) where
@@ -65,7 +65,7 @@ module _ (whole : Says success true) (discarded : Says elements_discarded false)
 
   abbrev Told : Found × List Edit → Type 0
   Told outcome = SaysWhatStands (of name (after (by name outcome.1) rows))
-      (instance_in (result_unwrap_or (reading context.syntax message.octets) no_elements)) outcome.0.status
+      (instance_in (result_unwrap_or (data_set_read context.syntax message.octets) no_elements)) outcome.0.status
 
   store-told : Told (operation_outcome Store a.called context.syntax limits message records)
   store-told = record {
@@ -84,25 +84,25 @@ module _ (whole : Says success true) (discarded : Says elements_discarded false)
 
   -- what is served where the message is not a C-CANCEL
   served-is : (b : Bool) → (message.command.code == c_cancel) ≡ b → context_of a message.context ≡ Some context → (r : Responses)
-      → (served limits records a message).responses ≡ Some r
-      → served limits records a message ≡ served_by context message.command (message_outcome a context limits message records)
-  unfolding served
+      → (service_of_message limits records a message).responses ≡ Some r
+      → service_of_message limits records a message ≡ served_by context message.command (message_outcome a context limits message records)
+  unfolding service_of_message
   served-is true h on r e =
-      let computed : (served limits records a message).responses ≡ None = rw h refl in
+      let computed : (service_of_message limits records a message).responses ≡ None = rw h refl in
       let both : None ≡ Some r = sym computed ∙ e in cc
   served-is false h on r e = rw (on, h) refl
 
   message-told : (r : Responses) → context_of a message.context ≡ Some context → service_of context.class ≡ Storage
-      → (served limits records a message).responses ≡ Some r
-      → SaysWhatStands (of name (after (by name (served limits records a message).edits) rows))
-      (instance_in (result_unwrap_or (reading context.syntax message.octets) no_elements)) r.final.0.status
+      → (service_of_message limits records a message).responses ≡ Some r
+      → SaysWhatStands (of name (after (by name (service_of_message limits records a message).edits) rows))
+      (instance_in (result_unwrap_or (data_set_read context.syntax message.octets) no_elements)) r.final.0.status
   message-told r on service e =
       let is = served-is (message.command.code == c_cancel) refl on r e in
       let answered = responses-are limits records a message context r (message.command.code == c_cancel) refl on e in
-      subst (λ (status : ℕ). SaysWhatStands (of name (after (by name (served limits records a message).edits) rows))
-      (instance_in (result_unwrap_or (reading context.syntax message.octets) no_elements)) status) (sym (ap (λ (x : Responses). x.final.0.status) answered))
+      subst (λ (status : ℕ). SaysWhatStands (of name (after (by name (service_of_message limits records a message).edits) rows))
+      (instance_in (result_unwrap_or (data_set_read context.syntax message.octets) no_elements)) status) (sym (ap (λ (x : Responses). x.final.0.status) answered))
       (subst (λ (edits : List Edit). SaysWhatStands (of name (after (by name edits) rows))
-      (instance_in (result_unwrap_or (reading context.syntax message.octets) no_elements)) (message_outcome a context limits message records).0.status)
+      (instance_in (result_unwrap_or (data_set_read context.syntax message.octets) no_elements)) (message_outcome a context limits message records).0.status)
       (sym (ap (λ (x : Served). x.edits) is)) (outcome-told (operation_named (service_of context.class) message.command.code) (bytes_eq message.command.sop_class (uid_of context.class)) refl service))
 
 module _ (whole : Says success true) (discarded : Says elements_discarded false) where

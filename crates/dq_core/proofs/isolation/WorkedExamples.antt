@@ -1,7 +1,7 @@
 -- The definitions on worked examples: what the plain server replies to histories, octet for octet, by computation.
 use Rattle.std.specs.Prelude.{◌≡◌, ℕ, List, [], ◌∷◌, ◌++◌, codes, take, drop, true, false, refl}
 use Rattle.dq_pdu.specs.Stream.{pdus_within}
-use Rattle.dq_pdu.specs.Reading.{front, pdu_of, associate_of, fields_of, request_of, item_at, pdv_at, proposed_of, user_information_of, data_pdu_of}
+use Rattle.dq_pdu.specs.PduReader.{front, pdu_of, associate_of, fields_of, request_of, item_at, pdv_at, proposed_of, user_information_of, data_pdu_of}
 use Rattle.dq_pdu.specs.Octets.{successive_parts}
 use Rattle.dq_vr.specs.Dictionary.{dictionary, vr_in, known_vr}
 use Rattle.dq_vr.specs.Tag.{is_below}
@@ -12,7 +12,7 @@ use Rattle.dq_value.specs.Parts as value
 use Rattle.dq_dimse.specs.Assembling.{messages_from}
 use Rattle.dq_dimse.specs.Receiving.{identifier_in}
 use Rattle.dq_dataset.specs.Rules.{content_of, agrees}
-use Rattle.dq_dataset.specs.Reading.{tag_at, vr_at, vr_or_fault, length_at, long_length_at, spelling_at, front_at, header_at, end_at, value_by, element_by, elements_after, elements_by, item_by, items_after, items_by, readers, reading}
+use Rattle.dq_dataset.specs.DataSetReader.{tag_at, vr_at, vr_or_fault, length_at, long_length_at, spelling_at, front_at, header_at, end_at, value_by, element_by, elements_after, elements_by, item_by, items_after, items_by, readers, data_set_read}
 use Rattle.dq_dataset.specs.Canonical.{header_octets, vr_and_length}
 use Rattle.dq_dataset.specs.Sieve.{is_over_limit}
 use Rattle.dq_dataset.specs.Values.{sole_at}
@@ -27,16 +27,16 @@ use Rattle.dq_match.specs.Supported.{is_supported, key_tags, leaves}
 use Rattle.dq_match.specs.Values.{are_well_formed, is_universal, matching_of, octets_meet}
 use Rattle.dq_find.specs.Levels.{level_named, has_keys_above}
 use Rattle.dq_find.specs.Queries.{message_query, records_asked, answers_of_records, about_answers, query_outcome}
-use Rattle.dq_find.specs.Computed.{computed_keys, study_values, modalities_in, all_in_order, put_in_order}
+use Rattle.dq_find.specs.ComputedKeys.{computed_keys, study_values, modalities_in, all_in_order, put_in_order}
 use Rattle.dq_match.specs.Responses.{shown_data_set}
 use Rattle.dq_match.specs.Matching.{asked_days, asked_times, start_day, start_time, period}
-use Rattle.dq_store.specs.Storing.{names_instance, store_outcome}
+use Rattle.dq_store.specs.CStore.{names_instance, store_outcome}
 use Rattle.dq_worklist.specs.Orders.{schedule_outcome, withdrawn}
 use Rattle.dq_tables.specs.Rows.{of}
-use Rattle.dq_tables.specs.Finding.{record_at, records_of, records_above}
+use Rattle.dq_tables.specs.Lookups.{record_at, records_of, records_above}
 use Rattle.dq_tables.specs.Records.{data_set_of}
 use Rattle.dq_tables.specs.Keys.{uid_at}
-use Rattle.dq_core.specs.Services.{served, console_outcome}
+use Rattle.dq_core.specs.Services.{service_of_message, console_outcome}
 use Rattle.dq_core.specs.Pages.{reaction}
 use Rattle.dq_core.specs.Shared.{replies}
 use Rattle.dq_core.specs.Own.{own}
@@ -88,9 +88,9 @@ an_association :
     (replies built_in [] (history (associate_request modality_title ∷ echo ∷ release ∷ [])) ≡ Done ∷ reply_with (acceptance_pdu modality_title) ∷ reply_with echo_response ∷ closed released ∷ [])
     × (replies built_in [] (history ((associate_request modality_title ++ echo ++ release) ∷ [])) ≡ Done ∷ closed (acceptance_pdu modality_title ++ echo_response ++ released) ∷ [])
 unfolding pdus_within front pdu_of associate_of fields_of request_of item_at pdv_at proposed_of user_information_of data_pdu_of successive_parts institution_routed has_route joins built_in class_of
-    without_spaces without_leading without_trailing kept_before messages_from command_from command_of reading readers elements_by element_by elements_after value_by
+    without_spaces without_leading without_trailing kept_before messages_from command_from command_of data_set_read readers elements_by element_by elements_after value_by
     items_by item_by items_after front_at header_at end_at is_below tag_at spelling_at long_length_at content_of known_vr vr_in dictionary trimmed_value without_padding is_padded
-    ignores_leading_spaces served reaction
+    ignores_leading_spaces service_of_message reaction
 an_association = (refl, refl)
 
 -- a sequence in a command set, an element of another group, and fragments of two octets for a peer that takes PDUs of 8
@@ -100,9 +100,9 @@ command_sets :
     × (replies built_in [] (history (request_from 1 modality_title 1 8 ∷ echo ∷ [])) ≡ Done ∷ reply_with (acceptance_pdu modality_title) ∷ reply_with
     (in_twos (response_set 66 verification 0x8030 0x0101 0x0000)) ∷ [])
 unfolding pdus_within front pdu_of associate_of fields_of request_of item_at pdv_at proposed_of user_information_of data_pdu_of successive_parts institution_routed has_route joins built_in class_of
-    without_spaces without_leading without_trailing kept_before messages_from command_from command_of reading readers elements_by element_by elements_after value_by
+    without_spaces without_leading without_trailing kept_before messages_from command_from command_of data_set_read readers elements_by element_by elements_after value_by
     items_by item_by items_after front_at header_at end_at is_below tag_at spelling_at long_length_at content_of known_vr vr_in dictionary trimmed_value without_padding is_padded
-    ignores_leading_spaces served reaction
+    ignores_leading_spaces service_of_message reaction
 command_sets = (refl, refl, refl)
 
 -- a C-ECHO of another class than the context has; a C-FIND on Verification, of whatever class; a C-CANCEL
@@ -113,9 +113,9 @@ statuses :
     (codes "1.2.840.10008.1.20") ∷ [])) ≡ Done ∷ reply_with (acceptance_pdu modality_title) ∷ reply_with (example_response 0x8020 0x0211) ∷ reply_with (example_response 0x8020 0x0211) ∷ [])
     × (replies built_in [] (history (associate_request modality_title ∷ cancel ∷ echo ∷ [])) ≡ Done ∷ reply_with (acceptance_pdu modality_title) ∷ reply_with [] ∷ reply_with echo_response ∷ [])
 unfolding pdus_within front pdu_of associate_of fields_of request_of item_at pdv_at proposed_of user_information_of data_pdu_of successive_parts institution_routed has_route joins built_in class_of
-    without_spaces without_leading without_trailing kept_before messages_from command_from command_of reading readers elements_by element_by elements_after value_by
+    without_spaces without_leading without_trailing kept_before messages_from command_from command_of data_set_read readers elements_by element_by elements_after value_by
     items_by item_by items_after front_at header_at end_at is_below tag_at spelling_at long_length_at content_of known_vr vr_in dictionary trimmed_value without_padding is_padded
-    ignores_leading_spaces served reaction
+    ignores_leading_spaces service_of_message reaction
 statuses = (refl, refl, refl)
 
 -- a pair of titles that no institution has; a version without bit 0; a maximum length that leaves no room; a context with an even id
@@ -162,9 +162,9 @@ in_mid_message :
     (56 ∷ 0 ∷ 0 ∷ 0 ∷ []) ++ 0 ∷ 0 ∷ 2 ∷ 0 ∷ 18 ∷ 0 ∷ []) ++ release) ∷ [])) ≡ Done ∷ reply_with (acceptance_pdu modality_title) ∷ closed released ∷ [])
     × (replies built_in [] (history (associate_request modality_title ∷ (echo ++ 8 ∷ 0 ∷ 0 ∷ 0 ∷ 0 ∷ 0 ∷ []) ∷ [])) ≡ Done ∷ reply_with (acceptance_pdu modality_title) ∷ closed (echo_response ++ short 7 0 2 1) ∷ [])
 unfolding pdus_within front pdu_of associate_of fields_of request_of item_at pdv_at proposed_of user_information_of data_pdu_of successive_parts institution_routed has_route joins built_in class_of
-    without_spaces without_leading without_trailing kept_before messages_from command_from command_of reading readers elements_by element_by elements_after value_by
+    without_spaces without_leading without_trailing kept_before messages_from command_from command_of data_set_read readers elements_by element_by elements_after value_by
     items_by item_by items_after front_at header_at end_at is_below tag_at spelling_at long_length_at content_of known_vr vr_in dictionary trimmed_value without_padding is_padded
-    ignores_leading_spaces served reaction
+    ignores_leading_spaces service_of_message reaction
 in_mid_message = (refl, refl)
 
 -- two institutions, PDU by PDU; ends; a piece after the close, and one before the opening
@@ -172,9 +172,9 @@ two_institutions : replies (two 4) [] (Open 1 ∷ Open 2 ∷ Piece 2 (associate_
     Piece 1 release ∷ End 1 ∷ End 2 ∷ End 2 ∷ Piece 2 echo ∷ End 9 ∷ []) ≡ Done ∷ Done ∷ Octets 2 (acceptance_pdu ct2) false ∷ Octets 1 (acceptance_pdu ct1)
     false ∷ Octets 2 echo_response false ∷ Octets 1 echo_response false ∷ Octets 1 released true ∷ Ignored ∷ Done ∷ Ignored ∷ Ignored ∷ Ignored ∷ []
 unfolding pdus_within front pdu_of associate_of fields_of request_of item_at pdv_at proposed_of user_information_of data_pdu_of successive_parts institution_routed has_route joins built_in class_of
-    without_spaces without_leading without_trailing kept_before messages_from command_from command_of reading readers elements_by element_by elements_after value_by
+    without_spaces without_leading without_trailing kept_before messages_from command_from command_of data_set_read readers elements_by element_by elements_after value_by
     items_by item_by items_after front_at header_at end_at is_below tag_at spelling_at long_length_at content_of known_vr vr_in dictionary trimmed_value without_padding is_padded
-    ignores_leading_spaces served reaction
+    ignores_leading_spaces service_of_message reaction
 two_institutions = refl
 
 -- an institution that may have one association open: a second is busy, another institution is not, and a release or an end gives the place back
@@ -218,14 +218,14 @@ not_understood = find_status 0xc000
 
 a_query : replies built_in [] (history (four_contexts ∷ find ∷ [])) ≡ Done ∷ reply_with four_results ∷ reply_with not_understood ∷ []
 unfolding pdus_within front pdu_of associate_of fields_of request_of item_at pdv_at proposed_of user_information_of data_pdu_of successive_parts institution_routed has_route joins built_in class_of
-    without_spaces without_leading without_trailing kept_before messages_from command_from command_of reading readers elements_by element_by elements_after value_by
+    without_spaces without_leading without_trailing kept_before messages_from command_from command_of data_set_read readers elements_by element_by elements_after value_by
     items_by item_by items_after front_at header_at end_at is_below tag_at spelling_at long_length_at content_of known_vr vr_in dictionary trimmed_value without_padding is_padded
-    ignores_leading_spaces served reaction query_outcome message_query identifier_in
+    ignores_leading_spaces service_of_message reaction query_outcome message_query identifier_in
 a_query = refl
 
 -- an entry that can't be read, and one that is not there
 orders_of_the_worklist : replies (two 4) [] (Schedule north (8 ∷ 0 ∷ []) ∷ Withdraw south [] ∷ []) ≡ Refused 1 ∷ Refused 5 ∷ []
-unfolding reading readers elements_by element_by elements_after value_by items_by item_by items_after front_at header_at end_at is_below tag_at spelling_at
+unfolding data_set_read readers elements_by element_by elements_after value_by items_by item_by items_after front_at header_at end_at is_below tag_at spelling_at
     long_length_at content_of known_vr vr_in dictionary institution_named of record_at console_outcome schedule_outcome withdrawn
 orders_of_the_worklist = refl
 
@@ -235,9 +235,9 @@ pub a_query_over_no_rows :
     × (replies built_in [] (history (four_contexts ∷ find_level (codes "VISIT ") ∷ [])) ≡ Done ∷ reply_with four_results ∷ reply_with
     (find_status 0xa900) ∷ [])
 unfolding pdus_within front pdu_of associate_of fields_of request_of item_at pdv_at proposed_of user_information_of data_pdu_of successive_parts institution_routed has_route joins built_in class_of
-    without_spaces without_leading without_trailing kept_before messages_from command_from command_of reading readers elements_by element_by elements_after value_by
+    without_spaces without_leading without_trailing kept_before messages_from command_from command_of data_set_read readers elements_by element_by elements_after value_by
     items_by item_by items_after front_at header_at end_at is_below tag_at spelling_at long_length_at content_of known_vr vr_in dictionary trimmed_value without_padding is_padded
-    ignores_leading_spaces served reaction query_outcome message_query identifier_in level_named has_keys_above is_supported key_tags leaves answers_of_records records_asked records_of of
+    ignores_leading_spaces service_of_message reaction query_outcome message_query identifier_in level_named has_keys_above is_supported key_tags leaves answers_of_records records_asked records_of of
     vr_at vr_or_fault vr_with_letters vr_among every_vr letters_of agrees length_at length_form_of is_text are_well_formed is_universal matching_of value.element_values
     value.value_pieces value.has_separator value.pieces value.onto_first uid_at sole_at
 a_query_over_no_rows = (refl, refl)
@@ -247,9 +247,9 @@ pub stores :
     (replies built_in [] (history (four_contexts ∷ store_on 3 ∷ [])) ≡ Done ∷ reply_with four_results ∷ reply_with (store_status 3 0xa900) ∷ [])
     × (replies built_in [] (history (associate_request modality_title ∷ store_on 1 ∷ [])) ≡ Done ∷ reply_with (acceptance_pdu modality_title) ∷ reply_with (example_response 0x8001 0x0211) ∷ [])
 unfolding pdus_within front pdu_of associate_of fields_of request_of item_at pdv_at proposed_of user_information_of data_pdu_of successive_parts institution_routed has_route joins built_in class_of
-    without_spaces without_leading without_trailing kept_before messages_from command_from command_of reading readers elements_by element_by elements_after value_by
+    without_spaces without_leading without_trailing kept_before messages_from command_from command_of data_set_read readers elements_by element_by elements_after value_by
     items_by item_by items_after front_at header_at end_at is_below tag_at spelling_at long_length_at content_of known_vr vr_in dictionary trimmed_value without_padding is_padded
-    ignores_leading_spaces served reaction store_outcome is_over_limit names_instance uid_at sole_at
+    ignores_leading_spaces service_of_message reaction store_outcome is_over_limit names_instance uid_at sole_at
 stores = (refl, refl)
 
 -- A study that one institution keeps is found there, and not at another.
@@ -258,9 +258,9 @@ pub a_kept_study :
     (found_study ++ find_status 0) ∷ [])
     × (replies (two 4) (kept_study ∷ []) (history (find_request ct2 ∷ find_uids ∷ [])) ≡ Done ∷ reply_with (find_accepted ct2) ∷ reply_with (find_status 0) ∷ [])
 unfolding pdus_within front pdu_of associate_of fields_of request_of item_at pdv_at proposed_of user_information_of data_pdu_of successive_parts institution_routed has_route joins built_in class_of
-    without_spaces without_leading without_trailing kept_before messages_from command_from command_of reading readers elements_by element_by elements_after value_by
+    without_spaces without_leading without_trailing kept_before messages_from command_from command_of data_set_read readers elements_by element_by elements_after value_by
     items_by item_by items_after front_at header_at end_at is_below tag_at spelling_at long_length_at content_of known_vr vr_in dictionary trimmed_value without_padding is_padded
-    ignores_leading_spaces served reaction query_outcome message_query identifier_in level_named has_keys_above is_supported key_tags leaves answers_of_records records_asked records_of of
+    ignores_leading_spaces service_of_message reaction query_outcome message_query identifier_in level_named has_keys_above is_supported key_tags leaves answers_of_records records_asked records_of of
     vr_at vr_or_fault vr_with_letters vr_among every_vr letters_of agrees length_at length_form_of is_text are_well_formed is_universal matching_of value.element_values
     value.value_pieces value.has_separator value.pieces value.onto_first uid_at sole_at data_set_of about_answers shown_data_set octets_meet asked_days asked_times
     start_day start_time period computed_keys study_values modalities_in all_in_order put_in_order records_above header_octets vr_and_length

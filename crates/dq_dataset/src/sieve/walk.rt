@@ -4,15 +4,15 @@
 ghost use Rattle.std.specs.Prelude.{◌≡◌, ◌-◌, ◌<◌, ◌≤◌, ℕ, List, [], ◌∷◌, length, take, reverse, true, Option, IfOk, IfSome, IfNone};
 ghost use Rattle.dq_list.specs.Octets.{AreOctets};
 ghost use Rattle.dq_dataset.specs.declared.fault.ReadFault.{ReadFault};
-ghost use Rattle.dq_dataset.specs.Reading.{may_nest, length_of};
+ghost use Rattle.dq_dataset.specs.DataSetReader.{may_nest, length_of};
 ghost use Rattle.dq_dataset.specs.Sifting.{is_reached, bound_by, until_of, reach_of, place_of_value, opened_reach, opened_left, StaysWithin, HasNoRoom, ItemMet, ElementMet, IsWalked, WalkedLeads, WalkLeads, LeadsTo, LeadsOn, IsSettling, IsWalk, IsPart, HasCome, HasEnd, AreNested};
 
+use crate::data_set_reader::DEPTH;
 use crate::fault::ReadFault;
 use crate::header::{
     Bound, Content, Header, ITEM_END, SEQUENCE_END, Syntax, end_at, front_at, item_front_at,
     length_of,
 };
-use crate::reading::DEPTH;
 use dq_vr::Tag;
 use std::alloc::{AllocError, Global};
 

@@ -1,4 +1,4 @@
-//! What limits how many changes are made.
+//! The limit on how many changes are made.
 
 /// The number of changes that are still made, and whether one more was asked for.
 #[derive(Debug, Clone, Copy, PartialEq, Eq)]

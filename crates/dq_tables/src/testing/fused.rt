@@ -3,10 +3,10 @@ ghost use Rattle.std.specs.Prelude.{◌≡◌, ◌||◌, false, true, length, ta
 ghost use Rattle.dq_tables.specs.declared.fault.TableFault.TheVariants.{Store};
 ghost use Rattle.dq_tables.specs.declared.row.Row.{Row};
 ghost use Rattle.dq_tables.specs.Rows.{after, operation_of};
-ghost use Rattle.dq_tables.specs.Finding.{row_at, rows_of, rows_above, rows_after, waiting_entries};
-ghost use Rattle.dq_tables.specs.Choosing.{studies_in};
+ghost use Rattle.dq_tables.specs.Lookups.{row_at, rows_of, rows_above, rows_after, waiting_entries};
+ghost use Rattle.dq_tables.specs.StudyChoices.{studies_in};
 ghost use Rattle.dq_tables.specs.Sound.{ChangeFits};
-ghost use Rattle.dq_tables.specs.Keeping.{Reads, Writes};
+ghost use Rattle.dq_tables.specs.TableStates.{Reads, Writes};
 ghost use Rattle.dq_tables.specs.Faults.{burnt};
 
 use crate::change::Change;

@@ -1,7 +1,7 @@
 use Rattle.std.proofs.Common.{rules, refl, arith}
 use Rattle.std.proofs.lemmas.List.{take_all}
 use Rattle.std.specs.Io.KnownBytes.{Appends}
-use Rattle.dq_captures.proofs.Written.{BreaksOff-item}
+use Rattle.dq_captures.proofs.WrittenLines.{BreaksOff-item}
 use Rattle.dq_app.proofs.Cutting.{AppendsPart-unflushed}
 use Rattle.dq_app.specs.Looping.{sent_line, sent_text}
 use Rattle.dq_app.proofs.looping.print_sent.Goals as goal

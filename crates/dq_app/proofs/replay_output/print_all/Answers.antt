@@ -1,5 +1,5 @@
 use Rattle.std.proofs.Common.{rules}
-use Rattle.dq_captures.specs.Printing.{reply_lines}
+use Rattle.dq_captures.specs.ReplyLines.{reply_lines}
 use Rattle.dq_app.proofs.Cutting.{AppendsPart-unflushed}
 use Rattle.dq_app.proofs.replay_output.print_all.Goals as goal
 

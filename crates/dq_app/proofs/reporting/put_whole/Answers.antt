@@ -1,5 +1,5 @@
 use Rattle.std.proofs.Common.{rules}
-use Rattle.dq_captures.proofs.Written.{Appends-kept, AppendsPart-whole}
+use Rattle.dq_captures.proofs.WrittenLines.{Appends-kept, AppendsPart-whole}
 use Rattle.dq_app.proofs.reporting.put_whole.Goals as goal
 
 pub returns-then-is_err-2-clause-cut : goal.returns-then-is_err-2-clause-cut

@@ -1,4 +1,4 @@
-use Rattle.dq_captures.proofs.Written.{OnErr-known, Appends-then, BreaksOff-first, BreaksOff-later}
+use Rattle.dq_captures.proofs.WrittenLines.{OnErr-known, Appends-then, BreaksOff-first, BreaksOff-later}
 use Rattle.dq_app.proofs.stop.put_misfit.Goals as goal
 
 pub returns-in_err-put_place-clause-part : goal.returns-in_err-put_place-clause-part

@@ -1,5 +1,5 @@
 use Rattle.dq_captures.specs.Captures.{telling_lines}
-use Rattle.dq_captures.proofs.Bringing.{lines_bring}
+use Rattle.dq_captures.proofs.BroughtOctets.{lines_bring}
 use Rattle.dq_captures.proofs.capture.captures_bring_octets.Goals as goal
 
 pub returns : goal.returns

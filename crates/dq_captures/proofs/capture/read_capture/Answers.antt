@@ -1,5 +1,5 @@
 use Rattle.dq_captures.specs.Captures.{lines_of}
-use Rattle.dq_captures.proofs.Bringing.{read_brings}
+use Rattle.dq_captures.proofs.BroughtOctets.{read_brings}
 use Rattle.dq_captures.proofs.Steps.{AreCapture-only}
 use Rattle.dq_captures.proofs.capture.read_capture.Goals as goal
 

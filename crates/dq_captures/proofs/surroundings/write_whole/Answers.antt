@@ -1,4 +1,4 @@
-use Rattle.dq_captures.proofs.Written.{Written-more, Written-part, Written-kept, OnErr-known}
+use Rattle.dq_captures.proofs.WrittenLines.{Written-more, Written-part, Written-kept, OnErr-known}
 use Rattle.dq_captures.proofs.surroundings.write_whole.Goals as goal
 
 pub returns-in_err-count-clause-part : goal.returns-in_err-count-clause-part

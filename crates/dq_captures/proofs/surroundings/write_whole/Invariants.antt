@@ -1,4 +1,4 @@
-use Rattle.dq_captures.proofs.Written.{Written}
+use Rattle.dq_captures.proofs.WrittenLines.{Written}
 use Rattle.dq_captures.proofs.surroundings.write_whole.Given as goal
 
 abbrev pub invariant-loop : goal.invariant-loop

@@ -1,4 +1,4 @@
-use Rattle.dq_captures.proofs.Written.{OnErr-known}
+use Rattle.dq_captures.proofs.WrittenLines.{OnErr-known}
 use Rattle.dq_console.proofs.ServiceProgress.{unanswered-after}
 use Rattle.dq_console.proofs.console.answer_to.Goals as goal
 

@@ -3,18 +3,18 @@ use Rattle.std.proofs.lemmas.List.{take_more}
 use Rattle.dq_request.specs.declared.response.Counted.{Counted}
 use Rattle.dq_tables.specs.declared.row.Row.{Row}
 use Rattle.dq_wires.proofs.TurnSequences.{map-more}
-use Rattle.dq_console.specs.Requests.{counted}
+use Rattle.dq_console.specs.Requests.{institution_counts}
 use Rattle.dq_console.proofs.Outcomes.{if_error}
 use Rattle.dq_console.proofs.counting.all_counted.Goals as goal
 
 another : (rows : List Row) (names : List (List ℕ)) (at : ℕ) (name : List ℕ) (all longer : List Counted) (item : Counted) → at < length names
-    → name ≡ get_or names at name → all ≡ map (counted rows) (take at names) → item ≡ counted rows name → longer ≡ all ++ item ∷ []
-    → longer ≡ map (counted rows) (take (at + 1) names)
+    → name ≡ get_or names at name → all ≡ map (institution_counts rows) (take at names) → item ≡ institution_counts rows name → longer ≡ all ++ item ∷ []
+    → longer ≡ map (institution_counts rows) (take (at + 1) names)
 another rows names at name all longer item within is before same added =
     added
     ∙ ap₂ (λ (some : List Counted) (one : Counted). some ++ one ∷ []) before same
-    ∙ sym (map-more (counted rows) (take at names) name)
-    ∙ ap (λ (some : List (List ℕ)). map (counted rows) some) (ap (λ (n : List ℕ). take at names ++ n ∷ []) is ∙ sym (take_more names at name within))
+    ∙ sym (map-more (institution_counts rows) (take at names) name)
+    ∙ ap (λ (some : List (List ℕ)). map (institution_counts rows) some) (ap (λ (n : List ℕ). take at names ++ n ∷ []) is ∙ sym (take_more names at name within))
 
 pub returns-in_err-counted-clause-fails : goal.returns-in_err-counted-clause-fails
 returns-in_err-counted-clause-fails g c =

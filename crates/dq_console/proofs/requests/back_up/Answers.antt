@@ -1,5 +1,5 @@
 use Rattle.std.proofs.Common.{ap, inl}
-use Rattle.dq_captures.proofs.Written.{OnErr-known}
+use Rattle.dq_captures.proofs.WrittenLines.{OnErr-known}
 use Rattle.dq_wires.specs.Turners.{TurnerView}
 use Rattle.dq_console.proofs.requests.back_up.Goals as goal
 

@@ -1,5 +1,5 @@
 use Rattle.std.proofs.Common.{inl, refl}
-use Rattle.dq_captures.proofs.Written.{OnErr-known}
+use Rattle.dq_captures.proofs.WrittenLines.{OnErr-known}
 use Rattle.dq_console.proofs.requests.count.Goals as goal
 
 pub returns-in_err-push-clause-cut : goal.returns-in_err-push-clause-cut

@@ -1,5 +1,5 @@
 use Rattle.std.proofs.Common.{inr}
-use Rattle.dq_captures.proofs.Written.{OnErr-known}
+use Rattle.dq_captures.proofs.WrittenLines.{OnErr-known}
 use Rattle.dq_console.proofs.searching.search.Goals as goal
 
 pub returns-in_err-steps-clause-cut : goal.returns-in_err-steps-clause-cut

@@ -1,5 +1,5 @@
 use Rattle.std.proofs.Common.{inl, inr, refl}
-use Rattle.dq_captures.proofs.Written.{OnErr-known}
+use Rattle.dq_captures.proofs.WrittenLines.{OnErr-known}
 use Rattle.dq_console.proofs.searching.search_by_keys.Goals as goal
 
 pub returns-in_err-keys-clause-cut : goal.returns-in_err-keys-clause-cut

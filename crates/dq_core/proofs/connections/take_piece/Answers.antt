@@ -40,5 +40,5 @@ returns c = λ world x held counts.
       number = c.take.ensures.keeps.0;
       inbox = c.take.ensures.keeps.1;
       query = c.take.ensures.keeps.2;
-      home = c.take.ensures.home;
+      slot_institution = c.take.ensures.slot_institution;
     })

@@ -3,10 +3,10 @@ use Rattle.std.proofs.lemmas.List.{take-map, drop-map}
 use Rattle.dq_dataset.specs.Tree.{ElementList}
 use Rattle.dq_tables.specs.declared.row.Kind.TheVariants.{Step}
 use Rattle.dq_tables.specs.declared.row.Row.{Row}
-use Rattle.dq_tables.specs.Finding.{rows_of, records_of}
+use Rattle.dq_tables.specs.Lookups.{rows_of, records_of}
 use Rattle.dq_tables.specs.Records.{data_set_of}
 use Rattle.dq_tables.specs.Rows.{Record, of, row_of}
-use Rattle.dq_tables.proofs.Seen.{listed_own}
+use Rattle.dq_tables.proofs.OwnRows.{listed_own}
 use Rattle.dq_core.specs.declared.showing.ShownPage.{ShownPage}
 use Rattle.dq_core.specs.Showing.{shown_page, page_most, steps_in}
 use Rattle.dq_core.proofs.showing.steps_page.Goals as goal

@@ -1,7 +1,7 @@
 use Rattle.std.proofs.Common.{◌≡◌, ◌<◌, [], ◌∷◌, length, Err, ap, arith, inl, inr}
 use Rattle.std.proofs.lemmas.List.{length-append}
 use Rattle.dq_dataset.proofs.Types.{Truncated}
-use Rattle.dq_dataset.specs.Reading.{front_at}
+use Rattle.dq_dataset.specs.DataSetReader.{front_at}
 use Rattle.dq_dataset.specs.declared.sieve.Stage.TheVariants.{Between}
 use Rattle.dq_dataset.proofs.WalkHeaders.{whole_header, filled_has_no_end}
 use Rattle.dq_dataset.proofs.SieveSteps.{goes_nowhere}

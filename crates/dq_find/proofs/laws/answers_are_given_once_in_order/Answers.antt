@@ -1,4 +1,4 @@
-use Rattle.dq_find.proofs.InTurn.{given_in_turn, given_in_pages, given_whole, page_is, pages_end}
+use Rattle.dq_find.proofs.AnswerPages.{given_in_turn, given_in_pages, given_whole, page_is, pages_end}
 use Rattle.dq_find.proofs.laws.answers_are_given_once_in_order.Goals as goal
 
 pub returns-clause-in_turn : goal.returns-clause-in_turn

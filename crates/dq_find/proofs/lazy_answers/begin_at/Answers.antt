@@ -1,9 +1,9 @@
 use Rattle.std.proofs.Common.{◌≡◌, ◌∙◌, sym, ap, refl}
 use Rattle.dq_dimse.specs.Statuses.{success}
-use Rattle.dq_tables.proofs.Calling.{reads_nothing, reads_right}
-use Rattle.dq_archive.specs.Pasts.{state_in, records_in}
-use Rattle.dq_find.specs.Lazy.{Lazy}
-use Rattle.dq_find.specs.Lazily.{answers_then}
+use Rattle.dq_tables.proofs.TableCalls.{reads_nothing, reads_right}
+use Rattle.dq_archive.specs.PastArchives.{state_in, records_in}
+use Rattle.dq_find.specs.PartialAnswers.{PartialAnswers}
+use Rattle.dq_find.specs.LazyAnswers.{answers_then}
 use Rattle.dq_find.specs.OpenSearches.{left_of}
 use Rattle.dq_find.specs.Queries.{answers_of_records, found_by}
 use Rattle.dq_find.proofs.lazy_answers.begin_at.Goals as goal
@@ -28,7 +28,7 @@ returns g c =
       same = begun.same;
       reads = reads_right (state_in state it) (state_in state c.begin.new.archive) c.in_ok-search.search _ begun.reads;
       found = λ h.
-          ap (λ (lazy : Lazy). record { status = success; optional = lazy.search.query.optional; answers = answers_then lazy records }) c.new.ensures
+          ap (λ (lazy : PartialAnswers). record { status = success; optional = lazy.search.query.optional; answers = answers_then lazy records }) c.new.ensures
           ∙ (λ i. record { status = success; optional = (begun.asked.1 i).optional; answers = begun.all h i })
           ∙ ap (found_by records c.args.called.now) (sym c.in-Ok.is);
     }

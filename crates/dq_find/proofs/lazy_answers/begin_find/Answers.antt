@@ -1,9 +1,9 @@
 use Rattle.std.proofs.Common.{◌≡◌, ◌∙◌, sym, ap, arith}
 use Rattle.dq_dimse.specs.Holding.{plain_message}
 use Rattle.dq_tables.specs.Rows.{of}
-use Rattle.dq_archive.specs.Pasts.{records_in}
-use Rattle.dq_archive.proofs.LookingBack.{records_now}
-use Rattle.dq_find.specs.Lazily.{found_then}
+use Rattle.dq_archive.specs.PastArchives.{records_in}
+use Rattle.dq_archive.proofs.PastLookups.{records_now}
+use Rattle.dq_find.specs.LazyAnswers.{found_then}
 use Rattle.dq_find.specs.Queries.{found_by, query_outcome}
 use Rattle.dq_find.proofs.lazy_answers.begin_find.Goals as goal
 

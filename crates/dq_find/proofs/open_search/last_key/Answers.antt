@@ -1,6 +1,6 @@
 use Rattle.std.proofs.Common.{sym, ap, ◌∙◌}
 use Rattle.dq_find.specs.OpenSearches.{last_key}
-use Rattle.dq_find.proofs.InPages.{last_row}
+use Rattle.dq_find.proofs.SearchPages.{last_row}
 use Rattle.dq_find.proofs.open_search.last_key.Goals as goal
 
 pub returns : goal.returns

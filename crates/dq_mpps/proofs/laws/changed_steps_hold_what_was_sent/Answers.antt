@@ -2,8 +2,8 @@ use Rattle.std.proofs.Common.{ap, List}
 use Rattle.dq_dataset.specs.declared.header.Syntax.TheVariants.{Explicit}
 use Rattle.dq_dataset.specs.Editing.{merged_data_set}
 use Rattle.dq_tables.specs.Rows.{Edit, records_after_edits}
-use Rattle.dq_mpps.specs.Changed.{step_at}
-use Rattle.dq_mpps.proofs.Changed.{changed_is}
+use Rattle.dq_mpps.specs.ChangedStep.{step_at}
+use Rattle.dq_mpps.proofs.ChangedStep.{changed_is}
 use Rattle.dq_mpps.proofs.Refusals.{changed_unless}
 use Rattle.dq_mpps.proofs.laws.changed_steps_hold_what_was_sent.Goals as goal
 

@@ -3,10 +3,10 @@ use Rattle.std.specs.List.{AllByRecursion}
 use Rattle.dq_dataset.specs.Editing.{merged_data_set}
 use Rattle.dq_tables.specs.declared.row.Row.{Row}
 use Rattle.dq_tables.specs.Rows.{Put, of, after_edit}
-use Rattle.dq_tables.specs.Starting.{entries_named}
+use Rattle.dq_tables.specs.StartedEntries.{entries_named}
 use Rattle.dq_tables.proofs.Lens.{rising_edit}
 use Rattle.dq_mpps.specs.Steps.{step_record}
-use Rattle.dq_mpps.specs.Changing.{kept_data_set, is_short_step}
+use Rattle.dq_mpps.specs.NSet.{kept_data_set, is_short_step}
 use Rattle.dq_mpps.proofs.StaysSound.{short_message, short_new, short_changed, created_stays, changed_stays, each_put, each_started}
 use Rattle.dq_mpps.proofs.laws.kept_steps_are_short.Goals as goal
 

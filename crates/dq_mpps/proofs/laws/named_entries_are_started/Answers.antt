@@ -1,4 +1,4 @@
-use Rattle.dq_mpps.proofs.Created.{created_is}
+use Rattle.dq_mpps.proofs.CreatedStep.{created_is}
 use Rattle.dq_mpps.proofs.laws.named_entries_are_started.Goals as goal
 
 pub returns : goal.returns

@@ -6,10 +6,10 @@ use Rattle.dq_dataset.specs.Facts.{IsDataSet}
 use Rattle.dq_tables.specs.declared.row.Row.{Row}
 use Rattle.dq_tables.specs.Records.{data_set_of}
 use Rattle.dq_tables.specs.Rows.{Put, of, after_edit}
-use Rattle.dq_tables.specs.Starting.{entries_named}
+use Rattle.dq_tables.specs.StartedEntries.{entries_named}
 use Rattle.dq_tables.proofs.Lens.{rising_edit}
 use Rattle.dq_mpps.specs.Steps.{step_record}
-use Rattle.dq_mpps.specs.Changing.{kept_data_set}
+use Rattle.dq_mpps.specs.NSet.{kept_data_set}
 use Rattle.dq_mpps.proofs.StaysSound.{short_octets, short_step, created_stays, changed_stays, each_put, each_found, each_started}
 use Rattle.dq_mpps.proofs.laws.rows_hold_data_sets.Goals as goal
 

@@ -3,11 +3,11 @@ use Rattle.std.specs.List.{AllByRecursion}
 use Rattle.dq_dataset.specs.Editing.{merged_data_set}
 use Rattle.dq_tables.specs.declared.row.Row.{Row}
 use Rattle.dq_tables.specs.Rows.{Put, of, after_edit, row_of}
-use Rattle.dq_tables.specs.Starting.{entries_named}
+use Rattle.dq_tables.specs.StartedEntries.{entries_named}
 use Rattle.dq_tables.proofs.Lens.{rising_edit}
-use Rattle.dq_tables.proofs.Started.{started}
+use Rattle.dq_tables.proofs.StartedEntries.{started}
 use Rattle.dq_mpps.specs.Steps.{step_record}
-use Rattle.dq_mpps.specs.Changing.{kept_data_set}
+use Rattle.dq_mpps.specs.NSet.{kept_data_set}
 use Rattle.dq_mpps.proofs.StaysSound.{created_stays, changed_stays, each_put, each_started}
 use Rattle.dq_mpps.proofs.laws.rows_of_other_kinds_stay.Goals as goal
 

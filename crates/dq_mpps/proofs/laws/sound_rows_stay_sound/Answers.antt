@@ -5,7 +5,7 @@ use Rattle.dq_dataset.specs.Facts.{IsDataSet}
 use Rattle.dq_tables.specs.declared.row.Row.{Row}
 use Rattle.dq_tables.specs.Records.{data_set_of}
 use Rattle.dq_tables.specs.Sound.{IsSound}
-use Rattle.dq_mpps.specs.Changing.{kept_data_set}
+use Rattle.dq_mpps.specs.NSet.{kept_data_set}
 use Rattle.dq_mpps.proofs.StaysSound.{short_octets, short_step, created_stays, changed_stays, new_sound, changed_sound, each_found}
 use Rattle.dq_mpps.proofs.laws.sound_rows_stay_sound.Goals as goal
 

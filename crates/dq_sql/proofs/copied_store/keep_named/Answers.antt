@@ -3,7 +3,7 @@ use Rattle.std.specs.Prelude.{filter}
 use Rattle.std.specs.Borrow.{Bor}
 use Rattle.std.proofs.lemmas.Fn.{filter_same}
 use Rattle.dq_tables.specs.declared.row.Row.{Row}
-use Rattle.dq_sql.specs.Copying.{is_row_of, copied_rows}
+use Rattle.dq_sql.specs.StoreCopies.{is_row_of, copied_rows}
 use Rattle.dq_sql.proofs.copied_store.keep_named.Goals as goal
 
 -- where there is a name

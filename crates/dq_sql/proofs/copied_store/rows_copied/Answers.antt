@@ -2,8 +2,8 @@ use Rattle.std.proofs.Common.{Err, ap, subst, sym}
 use Rattle.sqlite.specs.Held.{state}
 use Rattle.dq_tables.specs.Sound.{IsSound}
 use Rattle.dq_sql.specs.declared.version.Version.TheVariants.{Two}
-use Rattle.dq_sql.specs.Adopting.{IsRefused}
-use Rattle.dq_sql.proofs.Migrated.{by_fault}
+use Rattle.dq_sql.specs.FoundStores.{IsRefused}
+use Rattle.dq_sql.proofs.Migrations.{by_fault}
 use Rattle.dq_sql.proofs.CopiedStore.{copied_sound}
 use Rattle.dq_sql.proofs.copied_store.rows_copied.Goals as goal
 

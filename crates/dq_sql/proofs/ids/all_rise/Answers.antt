@@ -1,7 +1,7 @@
 use Rattle.std.proofs.Common.{◌≡◌, ◌+◌, ◌-◌, pos, true, false, slice_index_or, ap, sym, ◌∙◌, subst, arith}
 use Rattle.std.specs.Ordering.{int_cmp, is_lt, is_ge}
 use Rattle.std.proofs.lemmas.List.Sorted.{all_adjacent_more}
-use Rattle.dq_sql.proofs.Apart.{beside, no_rise, a_rise}
+use Rattle.dq_sql.proofs.DistinctIds.{beside, no_rise, a_rise}
 use Rattle.dq_sql.proofs.ids.all_rise.Goals as goal
 
 pub returns-then-is_ge : goal.returns-then-is_ge

@@ -1,6 +1,6 @@
 use Rattle.std.proofs.Common.{subst}
 use Rattle.std.specs.List.Sorted.{IsPermutation}
-use Rattle.dq_sql.proofs.Apart.{apart_answer}
+use Rattle.dq_sql.proofs.DistinctIds.{apart_answer}
 use Rattle.dq_sql.proofs.ids.are_apart.Goals as goal
 
 pub returns : goal.returns

@@ -1,5 +1,5 @@
 use Rattle.std.proofs.Common.{◌≡◌, map, take}
-use Rattle.dq_sql.specs.Migrating.{starts_of, steps_among, starting_operation}
+use Rattle.dq_sql.specs.MigratedRows.{starts_of, steps_among, starting_operation}
 use Rattle.dq_sql.proofs.kept_steps.named_by_steps.Given as goal
 
 abbrev pub invariant-loop-row : goal.invariant-loop-row

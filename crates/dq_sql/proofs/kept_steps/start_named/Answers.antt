@@ -1,6 +1,6 @@
 use Rattle.std.proofs.Common.{subst, sym}
 use Rattle.dq_tables.specs.Sound.{IsSound}
-use Rattle.dq_sql.proofs.Started.{next_starts, all_started, migrated_sound}
+use Rattle.dq_sql.proofs.StartedRows.{next_starts, all_started, migrated_sound}
 use Rattle.dq_sql.proofs.kept_steps.start_named.Goals as goal
 
 pub loop-entries-preserved : goal.loop-entries-preserved

@@ -1,7 +1,7 @@
 use Rattle.std.proofs.Math.Logic.{∥∥₁_map}
 use Rattle.sqlite.specs.Files.{file_state}
-use Rattle.dq_sql.specs.Kept.{left_sound}
-use Rattle.dq_sql.proofs.Restarted.{reopened}
+use Rattle.dq_sql.specs.OneContent.{left_sound}
+use Rattle.dq_sql.proofs.Restarts.{reopened}
 use Rattle.dq_sql.proofs.laws.what_a_crash_leaves_is_adopted.Goals as goal
 
 pub returns-clause-adopted : goal.returns-clause-adopted

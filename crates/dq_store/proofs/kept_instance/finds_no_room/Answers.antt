@@ -1,5 +1,5 @@
 use Rattle.std.proofs.Common.{sym, ◌∙◌}
-use Rattle.dq_archive.proofs.Looking.{looks_as}
+use Rattle.dq_archive.proofs.Lookups.{looks_as}
 use Rattle.dq_store.proofs.Records.{no_room}
 use Rattle.dq_store.proofs.kept_instance.finds_no_room.Goals as goal
 

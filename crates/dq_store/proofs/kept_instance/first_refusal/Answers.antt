@@ -1,9 +1,9 @@
 use Rattle.std.proofs.Common.{Some, sym, ◌∙◌}
 use Rattle.dq_config.specs.Limits.{limits_of}
-use Rattle.dq_tables.proofs.Refusing.{first_in, first_past}
+use Rattle.dq_tables.proofs.Refusals.{first_in, first_past}
 use Rattle.dq_archive.specs.Archives.{records_in}
-use Rattle.dq_archive.proofs.Looking.{looks_nothing, looks_alike}
-use Rattle.dq_store.specs.Storing.{kept_refusals, limit_refusals}
+use Rattle.dq_archive.proofs.Lookups.{looks_nothing, looks_alike}
+use Rattle.dq_store.specs.CStore.{kept_refusals, limit_refusals}
 use Rattle.dq_store.specs.Views.{instance_of, records_kept}
 use Rattle.dq_store.proofs.kept_instance.first_refusal.Goals as goal
 

@@ -1,9 +1,9 @@
 use Rattle.std.proofs.Common.{◌∙◌, Ok, ap, option_map}
 use Rattle.dq_tables.specs.declared.row.Kind.TheVariants.{Series, Image}
 use Rattle.dq_tables.specs.Rows.{row_of}
-use Rattle.dq_tables.specs.Finding.{record_at}
+use Rattle.dq_tables.specs.Lookups.{record_at}
 use Rattle.dq_archive.specs.Archives.{records_in}
-use Rattle.dq_archive.proofs.Looking.{looks_then, looks_as}
+use Rattle.dq_archive.proofs.Lookups.{looks_then, looks_as}
 use Rattle.dq_store.proofs.kept_instance.kept_rows.Goals as goal
 
 pub returns : goal.returns

@@ -1,11 +1,11 @@
 use Rattle.std.proofs.Common.{◌++◌, ℕ, Option, Err, Ok, sym, ap, ◌∙◌}
 use Rattle.std.proofs.lemmas.Result.{err_from_is_err_and}
 use Rattle.dq_config.specs.Limits.{limits_of}
-use Rattle.dq_tables.specs.Serving.{first_refusal}
-use Rattle.dq_tables.proofs.Calling.{reads_refused}
+use Rattle.dq_tables.specs.ServiceEffects.{first_refusal}
+use Rattle.dq_tables.proofs.TableCalls.{reads_refused}
 use Rattle.dq_archive.specs.Archives.{state_in, records_in}
-use Rattle.dq_archive.proofs.Looking.{looks_then, looks_as}
-use Rattle.dq_store.specs.Storing.{Kept, kept_refusals, limit_refusals, instance_refusals}
+use Rattle.dq_archive.proofs.Lookups.{looks_then, looks_as}
+use Rattle.dq_store.specs.CStore.{Kept, kept_refusals, limit_refusals, instance_refusals}
 use Rattle.dq_store.specs.Views.{instance_of, records_kept, rows_among, unless_refused}
 use Rattle.dq_store.proofs.Records.{kept_is}
 use Rattle.dq_store.proofs.kept_instance.kept_unless_refused.Goals as goal

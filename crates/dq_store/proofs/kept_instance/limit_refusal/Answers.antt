@@ -2,10 +2,10 @@ use Rattle.std.proofs.Common.{ℕ, Bool, [], ◌∷◌, Option, Some, None, sym,
 use Rattle.dq_config.specs.Limits.{limits_of}
 use Rattle.dq_dimse.specs.Statuses.{out_of_resources}
 use Rattle.dq_tables.specs.declared.row.Kind.TheVariants.{Image}
-use Rattle.dq_tables.specs.Serving.{first_refusal}
+use Rattle.dq_tables.specs.ServiceEffects.{first_refusal}
 use Rattle.dq_archive.specs.Archives.{records_in}
-use Rattle.dq_archive.proofs.Looking.{looks_then, looks_as}
-use Rattle.dq_store.specs.Storing.{finds_no_room, count_of}
+use Rattle.dq_archive.proofs.Lookups.{looks_then, looks_as}
+use Rattle.dq_store.specs.CStore.{finds_no_room, count_of}
 use Rattle.dq_store.specs.Views.{records_kept}
 use Rattle.dq_store.proofs.kept_instance.limit_refusal.Goals as goal
 

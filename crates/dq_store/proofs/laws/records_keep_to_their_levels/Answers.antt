@@ -11,7 +11,7 @@ use Rattle.dq_tables.specs.Records.{data_set_of}
 use Rattle.dq_tables.specs.Rows.{of}
 use Rattle.dq_vr.specs.StudyRoot.{study_attributes, series_attributes, image_attributes}
 use Rattle.dq_store.specs.Levels.{has_only, keeps_to_its_level, is_of_its_level}
-use Rattle.dq_store.specs.Storing.{instance_in, kept_among}
+use Rattle.dq_store.specs.CStore.{instance_in, kept_among}
 use Rattle.dq_store.proofs.Levels.{cut_has_only}
 use Rattle.dq_store.proofs.StaysSound.{stored_stays, each_stays}
 use Rattle.dq_store.proofs.laws.records_keep_to_their_levels.Goals as goal

@@ -11,7 +11,7 @@ use Rattle.dq_tables.specs.declared.row.Row.{Row}
 use Rattle.dq_tables.specs.Records.{data_set_of}
 use Rattle.dq_tables.specs.Rows.{of}
 use Rattle.dq_vr.specs.StudyRoot.{study_attributes, series_attributes, image_attributes}
-use Rattle.dq_store.specs.Storing.{instance_in, kept_among}
+use Rattle.dq_store.specs.CStore.{instance_in, kept_among}
 use Rattle.dq_store.proofs.StaysSound.{stored_stays, each_stays}
 use Rattle.dq_store.proofs.laws.rows_hold_data_sets.Goals as goal
 

@@ -4,7 +4,7 @@ use Rattle.dq_dataset.specs.Editing.{cut_out}
 use Rattle.dq_vr.specs.StudyRoot.{kept_attributes}
 use Rattle.dq_tables.specs.declared.row.Row.{Row}
 use Rattle.dq_tables.specs.Rows.{of, row_of}
-use Rattle.dq_store.specs.Storing.{instance_in, kept_among, study_record, series_record, image_record}
+use Rattle.dq_store.specs.CStore.{instance_in, kept_among, study_record, series_record, image_record}
 use Rattle.dq_store.proofs.StaysSound.{stored_stays, each_stays}
 use Rattle.dq_store.proofs.laws.rows_of_other_kinds_stay.Goals as goal
 

@@ -3,7 +3,7 @@ use Rattle.dq_dataset.specs.Editing.{cut_out}
 use Rattle.dq_dataset.proofs.Large.{small_has_lengths}
 use Rattle.dq_vr.specs.StudyRoot.{kept_attributes}
 use Rattle.dq_tables.specs.Sound.{IsSound}
-use Rattle.dq_store.specs.Storing.{instance_in}
+use Rattle.dq_store.specs.CStore.{instance_in}
 use Rattle.dq_store.proofs.StaysSound.{stored_stays, edits_sound}
 use Rattle.dq_store.proofs.laws.sound_rows_stay_sound.Goals as goal
 

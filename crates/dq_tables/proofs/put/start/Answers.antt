@@ -1,10 +1,10 @@
 use Rattle.std.proofs.Common.{length, refl, sym, subst}
 use Rattle.std.proofs.lemmas.Option.{slice_get_read}
 use Rattle.dq_tables.specs.declared.row.Kind.TheVariants.{Entry}
-use Rattle.dq_tables.specs.Finding.{IsAtIndex}
+use Rattle.dq_tables.specs.Lookups.{IsAtIndex}
 use Rattle.dq_tables.specs.Rows.{IsRising, Start, place}
 use Rattle.dq_tables.proofs.Lens.{rising_edit}
-use Rattle.dq_tables.proofs.Started.{starts_at, start_of_none}
+use Rattle.dq_tables.proofs.StartedEntries.{starts_at, start_of_none}
 use Rattle.dq_tables.proofs.put.start.Goals as goal
 
 pub returns-in-Ok-clause-done : goal.returns-in-Ok-clause-done

@@ -1,5 +1,5 @@
 use Rattle.std.proofs.Common.{◌≡◌, take}
-use Rattle.dq_tables.specs.Finding.{rows_above}
+use Rattle.dq_tables.specs.Lookups.{rows_above}
 use Rattle.dq_tables.proofs.scan.rows_above.Given as goal
 
 abbrev pub invariant-loop-row : goal.invariant-loop-row

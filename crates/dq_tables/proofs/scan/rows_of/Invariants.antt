@@ -1,5 +1,5 @@
 use Rattle.std.proofs.Common.{◌≡◌, take}
-use Rattle.dq_tables.specs.Finding.{rows_of}
+use Rattle.dq_tables.specs.Lookups.{rows_of}
 use Rattle.dq_tables.proofs.scan.rows_of.Given as goal
 
 abbrev pub invariant-loop-row : goal.invariant-loop-row

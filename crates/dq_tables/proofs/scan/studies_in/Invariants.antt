@@ -1,5 +1,5 @@
 use Rattle.std.proofs.Common.{◌≡◌, take}
-use Rattle.dq_tables.specs.Choosing.{studies_in}
+use Rattle.dq_tables.specs.StudyChoices.{studies_in}
 use Rattle.dq_tables.proofs.scan.studies_in.Given as goal
 
 abbrev pub invariant-loop-row : goal.invariant-loop-row

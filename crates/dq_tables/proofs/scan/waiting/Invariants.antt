@@ -1,5 +1,5 @@
 use Rattle.std.proofs.Common.{◌≡◌, take}
-use Rattle.dq_tables.specs.Finding.{waiting_entries}
+use Rattle.dq_tables.specs.Lookups.{waiting_entries}
 use Rattle.dq_tables.proofs.scan.waiting.Given as goal
 
 abbrev pub invariant-loop-row : goal.invariant-loop-row

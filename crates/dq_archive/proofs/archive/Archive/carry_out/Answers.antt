@@ -1,7 +1,7 @@
 use Rattle.std.proofs.Common.{subst}
 use Rattle.std.proofs.lemmas.Result.{err_from_is_err_and}
-use Rattle.dq_archive.specs.Deciding.{IsOwn}
-use Rattle.dq_archive.proofs.Deciding.{change_made, change_refused}
+use Rattle.dq_archive.specs.Decisions.{IsOwn}
+use Rattle.dq_archive.proofs.Decisions.{change_made, change_refused}
 use Rattle.dq_archive.proofs.archive.Archive.carry_out.Goals as goal
 
 pub returns-in_err-make_change-clause-serves : goal.returns-in_err-make_change-clause-serves

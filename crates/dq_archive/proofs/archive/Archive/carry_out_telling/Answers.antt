@@ -1,5 +1,5 @@
 use Rattle.std.proofs.lemmas.Result.{on_ok_weaker}
-use Rattle.dq_archive.proofs.Adding.{told_by}
+use Rattle.dq_archive.proofs.AddedRecords.{told_by}
 use Rattle.dq_archive.proofs.archive.Archive.carry_out_telling.Goals as goal
 
 pub returns-clause-told : goal.returns-clause-told

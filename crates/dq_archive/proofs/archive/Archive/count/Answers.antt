@@ -1,8 +1,8 @@
 use Rattle.std.proofs.Common.{length, refl}
-use Rattle.dq_tables.specs.Finding.{rows_of}
-use Rattle.dq_tables.proofs.Seen.{counted_own}
+use Rattle.dq_tables.specs.Lookups.{rows_of}
+use Rattle.dq_tables.proofs.OwnRows.{counted_own}
 use Rattle.dq_archive.specs.Archives.{state_in}
-use Rattle.dq_archive.proofs.Looking.{looks_for}
+use Rattle.dq_archive.proofs.Lookups.{looks_for}
 use Rattle.dq_archive.proofs.archive.Archive.count.Goals as goal
 
 pub returns : goal.returns

@@ -1,10 +1,10 @@
 use Rattle.std.proofs.Common.{length, refl, ap, ◌∙◌}
 use Rattle.std.proofs.lemmas.List.{length-map}
 use Rattle.dq_tables.specs.Rows.{row_of}
-use Rattle.dq_tables.specs.Finding.{rows_above, records_above}
-use Rattle.dq_tables.proofs.Seen.{above_own}
+use Rattle.dq_tables.specs.Lookups.{rows_above, records_above}
+use Rattle.dq_tables.proofs.OwnRows.{above_own}
 use Rattle.dq_archive.specs.Archives.{state_in, records_in}
-use Rattle.dq_archive.proofs.Looking.{looks_for}
+use Rattle.dq_archive.proofs.Lookups.{looks_for}
 use Rattle.dq_archive.proofs.archive.Archive.count_above.Goals as goal
 
 pub returns : goal.returns

@@ -1,8 +1,8 @@
 use Rattle.std.proofs.Common.{is_some, ap, ◌∙◌}
 use Rattle.dq_tables.specs.Rows.{row_of}
-use Rattle.dq_tables.specs.Finding.{record_at}
+use Rattle.dq_tables.specs.Lookups.{record_at}
 use Rattle.dq_archive.specs.Archives.{records_in}
-use Rattle.dq_archive.proofs.Looking.{some_mapped, looks_as}
+use Rattle.dq_archive.proofs.Lookups.{some_mapped, looks_as}
 use Rattle.dq_archive.proofs.archive.Archive.has.Goals as goal
 
 pub returns : goal.returns

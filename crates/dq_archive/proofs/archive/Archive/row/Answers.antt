@@ -1,8 +1,8 @@
 use Rattle.std.proofs.Common.{refl}
-use Rattle.dq_tables.specs.Finding.{row_at}
-use Rattle.dq_tables.proofs.Seen.{found_own}
+use Rattle.dq_tables.specs.Lookups.{row_at}
+use Rattle.dq_tables.proofs.OwnRows.{found_own}
 use Rattle.dq_archive.specs.Archives.{state_in}
-use Rattle.dq_archive.proofs.Looking.{looks_for}
+use Rattle.dq_archive.proofs.Lookups.{looks_for}
 use Rattle.dq_archive.proofs.archive.Archive.row.Goals as goal
 
 pub returns : goal.returns

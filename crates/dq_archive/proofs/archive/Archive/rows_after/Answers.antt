@@ -1,8 +1,8 @@
 use Rattle.std.proofs.Common.{take, refl}
-use Rattle.dq_tables.specs.Finding.{rows_after}
-use Rattle.dq_tables.proofs.Seen.{page_own}
+use Rattle.dq_tables.specs.Lookups.{rows_after}
+use Rattle.dq_tables.proofs.OwnRows.{page_own}
 use Rattle.dq_archive.specs.Archives.{state_in}
-use Rattle.dq_archive.proofs.Looking.{looks_for}
+use Rattle.dq_archive.proofs.Lookups.{looks_for}
 use Rattle.dq_archive.proofs.archive.Archive.rows_after.Goals as goal
 
 pub returns : goal.returns

@@ -1,8 +1,8 @@
 use Rattle.std.proofs.Common.{refl}
-use Rattle.dq_tables.specs.Choosing.{studies_in}
-use Rattle.dq_tables.proofs.Seen.{chosen_own}
+use Rattle.dq_tables.specs.StudyChoices.{studies_in}
+use Rattle.dq_tables.proofs.OwnRows.{chosen_own}
 use Rattle.dq_archive.specs.Archives.{state_in}
-use Rattle.dq_archive.proofs.Looking.{looks_for}
+use Rattle.dq_archive.proofs.Lookups.{looks_for}
 use Rattle.dq_archive.proofs.archive.Archive.studies_in.Goals as goal
 
 pub returns : goal.returns

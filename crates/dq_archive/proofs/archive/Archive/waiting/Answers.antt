@@ -1,8 +1,8 @@
 use Rattle.std.proofs.Common.{refl}
-use Rattle.dq_tables.specs.Finding.{waiting_entries}
-use Rattle.dq_tables.proofs.Seen.{waiting_own}
+use Rattle.dq_tables.specs.Lookups.{waiting_entries}
+use Rattle.dq_tables.proofs.OwnRows.{waiting_own}
 use Rattle.dq_archive.specs.Archives.{state_in}
-use Rattle.dq_archive.proofs.Looking.{looks_for}
+use Rattle.dq_archive.proofs.Lookups.{looks_for}
 use Rattle.dq_archive.proofs.archive.Archive.waiting.Goals as goal
 
 pub returns : goal.returns

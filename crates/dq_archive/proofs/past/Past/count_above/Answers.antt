@@ -1,11 +1,11 @@
 use Rattle.std.proofs.Common.{length, refl, sym, ap, ◌∙◌}
 use Rattle.std.proofs.lemmas.List.{length-map}
 use Rattle.dq_tables.specs.Rows.{of, row_of}
-use Rattle.dq_tables.specs.Finding.{rows_above, records_above}
-use Rattle.dq_tables.proofs.Seen.{above_own}
-use Rattle.dq_archive.specs.Pasts.{state_in}
-use Rattle.dq_archive.proofs.Leaving.{untouched_above}
-use Rattle.dq_archive.proofs.LookingBack.{looks_now}
+use Rattle.dq_tables.specs.Lookups.{rows_above, records_above}
+use Rattle.dq_tables.proofs.OwnRows.{above_own}
+use Rattle.dq_archive.specs.PastArchives.{state_in}
+use Rattle.dq_archive.proofs.PastRecords.{untouched_above}
+use Rattle.dq_archive.proofs.PastLookups.{looks_now}
 use Rattle.dq_archive.proofs.past.Past.count_above.Goals as goal
 
 pub returns-then-not-is_touched : goal.returns-then-not-is_touched

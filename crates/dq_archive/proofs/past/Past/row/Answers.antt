@@ -1,12 +1,12 @@
 use Rattle.std.proofs.Common.{refl, ap, ◌∙◌}
 use Rattle.dq_tables.specs.Rows.{of}
-use Rattle.dq_tables.specs.Finding.{row_at}
-use Rattle.dq_tables.proofs.Listing.{listed_in_order}
-use Rattle.dq_tables.proofs.Seen.{found_own}
-use Rattle.dq_archive.specs.Later.{unless_later}
-use Rattle.dq_archive.specs.Pasts.{state_in}
-use Rattle.dq_archive.proofs.Leaving.{left_at}
-use Rattle.dq_archive.proofs.LookingBack.{looks_back}
+use Rattle.dq_tables.specs.Lookups.{row_at}
+use Rattle.dq_tables.proofs.RecordLists.{listed_in_order}
+use Rattle.dq_tables.proofs.OwnRows.{found_own}
+use Rattle.dq_archive.specs.Additions.{unless_later}
+use Rattle.dq_archive.specs.PastArchives.{state_in}
+use Rattle.dq_archive.proofs.PastRecords.{left_at}
+use Rattle.dq_archive.proofs.PastLookups.{looks_back}
 use Rattle.dq_archive.proofs.past.Past.row.Goals as goal
 
 pub returns : goal.returns

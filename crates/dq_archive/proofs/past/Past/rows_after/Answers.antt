@@ -3,13 +3,13 @@ use Rattle.std.specs.List.{filter}
 use Rattle.std.proofs.lemmas.List.{take-map}
 use Rattle.dq_tables.specs.declared.row.Row.{Row}
 use Rattle.dq_tables.specs.Rows.{of, row_of, record_of}
-use Rattle.dq_tables.specs.Finding.{rows_after, records_after}
-use Rattle.dq_tables.proofs.Listing.{listed_in_order}
-use Rattle.dq_tables.proofs.Seen.{page_own}
-use Rattle.dq_archive.specs.Later.{is_later, without}
-use Rattle.dq_archive.specs.Pasts.{state_in}
-use Rattle.dq_archive.proofs.Leaving.{left_rows, left_after, first_left, after_in_order, nothing_left_out}
-use Rattle.dq_archive.proofs.LookingBack.{looks_now, looks_back}
+use Rattle.dq_tables.specs.Lookups.{rows_after, records_after}
+use Rattle.dq_tables.proofs.RecordLists.{listed_in_order}
+use Rattle.dq_tables.proofs.OwnRows.{page_own}
+use Rattle.dq_archive.specs.Additions.{is_later, without}
+use Rattle.dq_archive.specs.PastArchives.{state_in}
+use Rattle.dq_archive.proofs.PastRecords.{left_rows, left_after, first_left, after_in_order, nothing_left_out}
+use Rattle.dq_archive.proofs.PastLookups.{looks_now, looks_back}
 use Rattle.dq_archive.proofs.past.Past.rows_after.Goals as goal
 
 pub returns-then-is_empty : goal.returns-then-is_empty

@@ -2,12 +2,12 @@ use Rattle.std.proofs.Common.{not, map, refl, ap, ◌∙◌}
 use Rattle.std.specs.List.{filter}
 use Rattle.dq_tables.specs.declared.row.Row.{Row}
 use Rattle.dq_tables.specs.Rows.{of, row_of, record_of}
-use Rattle.dq_tables.specs.Choosing.{studies_in, studies_among}
-use Rattle.dq_tables.proofs.Seen.{chosen_own}
-use Rattle.dq_archive.specs.Later.{is_later}
-use Rattle.dq_archive.specs.Pasts.{state_in}
-use Rattle.dq_archive.proofs.Leaving.{left_rows, left_chosen}
-use Rattle.dq_archive.proofs.LookingBack.{looks_back}
+use Rattle.dq_tables.specs.StudyChoices.{studies_in, studies_among}
+use Rattle.dq_tables.proofs.OwnRows.{chosen_own}
+use Rattle.dq_archive.specs.Additions.{is_later}
+use Rattle.dq_archive.specs.PastArchives.{state_in}
+use Rattle.dq_archive.proofs.PastRecords.{left_rows, left_chosen}
+use Rattle.dq_archive.proofs.PastLookups.{looks_back}
 use Rattle.dq_archive.proofs.past.Past.studies_in.Goals as goal
 
 pub returns : goal.returns

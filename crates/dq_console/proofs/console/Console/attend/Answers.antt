@@ -1,5 +1,5 @@
 use Rattle.std.proofs.Common.{◌<◌, ◌∙◌, length, refl, arith}
-use Rattle.dq_captures.proofs.Written.{OnErr-known}
+use Rattle.dq_captures.proofs.WrittenLines.{OnErr-known}
 use Rattle.dq_console.proofs.Visiting.{visits-begin, visits-end, visits-kept, visits-gone, visits-halted}
 use Rattle.dq_console.proofs.console.Console.attend.Goals as goal
 

@@ -1,4 +1,4 @@
-use Rattle.dq_captures.proofs.Written.{OnErr-known}
+use Rattle.dq_captures.proofs.WrittenLines.{OnErr-known}
 use Rattle.dq_console.proofs.Visiting.{attends, interrupts, interrupts-front}
 use Rattle.dq_console.proofs.console.Console.turn.Goals as goal
 

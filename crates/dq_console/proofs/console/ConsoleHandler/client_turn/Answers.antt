@@ -1,5 +1,5 @@
 use Rattle.std.proofs.Common.{ap, ◌∙◌}
-use Rattle.dq_captures.proofs.Written.{OnErr-known}
+use Rattle.dq_captures.proofs.WrittenLines.{OnErr-known}
 use Rattle.dq_console.proofs.Visiting.{client-turn-line, client-turn-quiet, client-turn-forgotten}
 use Rattle.dq_console.proofs.console.ConsoleHandler.client_turn.Goals as goal
 

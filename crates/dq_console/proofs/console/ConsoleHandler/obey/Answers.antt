@@ -1,4 +1,4 @@
-use Rattle.dq_captures.proofs.Written.{OnErr-known}
+use Rattle.dq_captures.proofs.WrittenLines.{OnErr-known}
 use Rattle.dq_console.proofs.ServiceProgress.{does-line, line-halted}
 use Rattle.dq_console.proofs.console.ConsoleHandler.obey.Goals as goal
 

@@ -1,4 +1,4 @@
-use Rattle.dq_captures.proofs.Written.{OnErr-known}
+use Rattle.dq_captures.proofs.WrittenLines.{OnErr-known}
 use Rattle.dq_console.proofs.ServiceProgress.{responds, request-halted, halted-before, unanswered-after}
 use Rattle.dq_console.proofs.console.ConsoleHandler.respond.Goals as goal
 

@@ -5,7 +5,7 @@ use Rattle.slab.specs.Slab.{get, with_value}
 use Rattle.dq_assoc.specs.Holding.{held_agreement}
 use Rattle.dq_tables.specs.declared.row.Row.{Row}
 use Rattle.dq_tables.specs.Rows.{IsRising, after_all}
-use Rattle.dq_archive.specs.declared.later.Added.{Added}
+use Rattle.dq_archive.specs.declared.additions.Addition.{Addition}
 use Rattle.dq_core.specs.declared.connections.Connections.{Connections}
 use Rattle.dq_core.specs.declared.slot.Slot.{Slot}
 use Rattle.dq_core.specs.Additions.{with_log}
@@ -99,7 +99,7 @@ returns-clause-turned g c = λ world h r honest.
     let m : Moves now.config world number piece now place old new q t h found there took rows log next new_logs left = record {
       is = logged;
       told_by = subst (λ (rs : List Row). IsToldBy q rs rows log next) r (c.in_ok-octets.ensures.told honest);
-      logs_are = c.put.ensures ∙ ap (λ (l : List (List Added)). with_log l c.owner_place-at.result next) c.take_log-log.ensures.left
+      logs_are = c.put.ensures ∙ ap (λ (l : List (List Addition)). with_log l c.owner_place-at.result next) c.take_log-log.ensures.left
           ∙ ap (λ (o : Option ℕ). with_log (with_log logs o []) o next) c.owner_place-at.ensures;
       rising = subst IsRising r (g.met.T.Tables.sound c.args.tables.now (c.in_ok-octets.ensures.goes.was_honest honest)).rising;
       changes = (connection_answer q was agreed (query_by q was log new.query) is_told.taken).changes;

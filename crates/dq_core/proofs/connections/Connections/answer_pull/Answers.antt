@@ -45,7 +45,7 @@ returns-clause-turned g c = λ world h r honest.
     let left = c.in_ok-octets.ensures.left honest asks.begun in
     pull-answered now.config world c.args.number now c.in-Some.place old c.send_page.new.self h found there c.send_page.ensures.keeps
     (g.T.Tables.state c.send_page.new.tables).rows (c.send_page.ensures.same honest ∙ r)
-    (next_page (query_at now.config world.rows logs old.home old.query)) refl
+    (next_page (query_at now.config world.rows logs old.institution old.query)) refl
     (rw r at left) (c.in_ok-octets.ensures.begun asks.begun) c.octets_reply.result
     (c.octets_reply.ensures ∙ ap (λ (octets : List ℕ). reply.Octets c.args.number octets false) (rw r at page))
 

@@ -2,8 +2,8 @@ use Rattle.std.proofs.Common.{◌≡◌, ◌≤◌, ◌<◌, ◌++◌, ℕ, true
 use Rattle.std.proofs.lemmas.Bool.Decides.{nat_tests}
 use Rattle.dq_match.specs.declared.responses.Found.{Found}
 use Rattle.dq_tables.specs.Rows.{Record, of}
-use Rattle.dq_archive.specs.Later.{without}
-use Rattle.dq_archive.specs.Pasts.{records_in}
+use Rattle.dq_archive.specs.Additions.{without}
+use Rattle.dq_archive.specs.PastArchives.{records_in}
 use Rattle.dq_core.specs.declared.answers.Answers.{Answers}
 use Rattle.dq_core.specs.declared.pages.OpenQuery.{OpenQuery as HeldQuery}
 use Rattle.dq_core.specs.Pages.{OpenQuery, Page, page, rest}

@@ -1,7 +1,7 @@
 use Rattle.std.proofs.Common.{◌≡◌, ◌++◌, ℕ, length, sym, ap, ◌∙◌}
 use Rattle.std.proofs.lemmas.List.{length-map}
 use Rattle.dq_match.specs.declared.responses.Found.{Found}
-use Rattle.dq_archive.specs.Pasts.{records_in}
+use Rattle.dq_archive.specs.PastArchives.{records_in}
 use Rattle.dq_core.specs.declared.pages.OpenQuery.{OpenQuery as HeldQuery}
 use Rattle.dq_core.specs.Pages.{OpenQuery, rest}
 use Rattle.dq_core.specs.Services.{pending_response, responses}

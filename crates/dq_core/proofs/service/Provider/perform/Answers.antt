@@ -2,8 +2,8 @@ use Rattle.std.proofs.lemmas.Result.{on_ok_weaker}
 use Rattle.dq_dimse.specs.Holding.{plain_message}
 use Rattle.dq_config.specs.Limits.{limits_of}
 use Rattle.dq_tables.specs.Rows.{of}
-use Rattle.dq_mpps.specs.Creating.{create_outcome}
-use Rattle.dq_mpps.specs.Changing.{set_outcome}
+use Rattle.dq_mpps.specs.NCreate.{create_outcome}
+use Rattle.dq_mpps.specs.NSet.{set_outcome}
 use Rattle.dq_core.proofs.Brief.{told_brief, create_brief, set_brief}
 use Rattle.dq_core.proofs.service.Provider.perform.Goals as goal
 

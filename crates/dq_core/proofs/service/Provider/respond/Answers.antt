@@ -38,9 +38,9 @@ returns-clause-does g c = λ h sent on.
     let out = c.args.answered.octets.items in
     let was = c.serve-2.ensures.goes.was_honest h in
     let same = c.send_rest.ensures.reads.same was in
-    let logged : c.home-home.result.log.now ≡ c.args.log.now = ap (λ l. l.now) c.home-home.ensures.1 ∙ c.as_slice.ensures in
+    let logged : c.search_scope-scope.result.log.now ≡ c.args.log.now = ap (λ l. l.now) c.search_scope-scope.ensures.1 ∙ c.as_slice.ensures in
     let sent_rest = c.in_ok-send_rest.ensures.sent was
-    ∙ (λ i. out ++ rest (open_query_of (records_since (c.home-home.ensures.0 i).now.name rows (logged i) asked.since) asked)) in
+    ∙ (λ i. out ++ rest (open_query_of (records_since (c.search_scope-scope.ensures.0 i).now.name rows (logged i) asked.since) asked)) in
     IfOk-weaker c.serve-2.result _ _
     (λ given did. rw c.in-Some.is (did-after c.args.self.institution.now agreement sent (open_query_of (records_since name rows c.args.log.now asked.since) asked) rows
     (state c.serve-2.new.tables).rows out c.send_rest.new.out.items given.octets.items

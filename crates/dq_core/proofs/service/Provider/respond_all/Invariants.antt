@@ -3,7 +3,7 @@ use Rattle.dq_dimse.specs.Holding.{AllRefine}
 use Rattle.dq_dimse.specs.Received.{Message}
 use Rattle.dq_assoc.specs.Holding.{accepted_by}
 use Rattle.dq_core.specs.Stepping.{HealthAfter}
-use Rattle.dq_archive.specs.Later.{IsTold}
+use Rattle.dq_archive.specs.Additions.{IsTold}
 use Rattle.dq_core.specs.Queries.{query_then, IsBegun}
 use Rattle.dq_core.proofs.TableCalls.{ok_of}
 use Rattle.dq_core.proofs.Composing.{HasServed}

@@ -76,10 +76,10 @@ returns-clause-does g c = λ h sent on.
       since = c.len.result;
       note = c.note-note.result;
     } in
-    let home = c.home-home.result in
-    let own = c.home-home.ensures.0 in
-    let logged : home.log.now ≡ log = ap (λ l. l.now) c.home-home.ensures.1 ∙ c.as_slice.ensures in
-    let at = records_since home.institution.now.name mid home.log.now query.since in
+    let scope = c.search_scope-scope.result in
+    let own = c.search_scope-scope.ensures.0 in
+    let logged : scope.log.now ≡ log = ap (λ l. l.now) c.search_scope-scope.ensures.1 ∙ c.as_slice.ensures in
+    let at = records_since scope.institution.now.name mid scope.log.now query.since in
     let now : at ≡ of name mid = (λ i. records_since (own i).now.name mid (logged i) (c.len.ensures i)) ∙ records_now name mid log in
     let sent_page = c.in_ok-query.ensures.sent h in
     did-served institution agreement sent c.in-Some.context

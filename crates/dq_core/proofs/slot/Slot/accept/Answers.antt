@@ -4,7 +4,7 @@ use Rattle.dq_pdu.specs.declared.pdu.Pdu.TheVariants as pdu
 use Rattle.dq_assoc.specs.Associations as held
 use Rattle.dq_assoc.specs.After.{association_from}
 use Rattle.dq_assoc.specs.Holding.{held_agreement}
-use Rattle.dq_core.specs.Slots.{home_of}
+use Rattle.dq_core.specs.Slots.{associated_institution}
 use Rattle.dq_core.proofs.Taking.{accepted-owned, given_more, none_held, taken_accepted, taken_refused}
 use Rattle.dq_core.proofs.slot.Slot.accept.Goals as goal
 
@@ -20,7 +20,7 @@ returns-clause-stands c = λ before stands e.
         association = given_more c.pdus_in_parts.ensures.association first c.into_inner-pdus.result.items c.args.rest.pdus c.take_all.new.self
             c.into_inner-pdus.ensures taken.1;
         not_closed = sym c.in_ok-step.ensures.close ∙ e;
-        home = c.in_ok-self.ensures ∙ ap (home_of owner) (c.agreement.ensures ∙ sym c.in_ok-step.ensures.agreement);
+        slot_institution = c.in_ok-self.ensures ∙ ap (associated_institution owner) (c.agreement.ensures ∙ sym c.in_ok-step.ensures.agreement);
         owned = λ agreement is. accepted-owned owner c.args.called.verdict c.args.request stands line_is;
       },
     )

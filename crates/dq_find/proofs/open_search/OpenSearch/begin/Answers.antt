@@ -2,13 +2,13 @@ use Rattle.std.proofs.Common.{◌∙◌, map, refl, sym, ap}
 use Rattle.std.specs.List.{filter_map}
 use Rattle.dq_match.specs.declared.keys.Nesting.TheVariants.{Outer}
 use Rattle.dq_tables.specs.declared.row.Row.{Row}
-use Rattle.dq_tables.proofs.Calling.{reads_nothing, reads_right}
-use Rattle.dq_archive.specs.Pasts.{state_in, records_in}
+use Rattle.dq_tables.proofs.TableCalls.{reads_nothing, reads_right}
+use Rattle.dq_archive.specs.PastArchives.{state_in, records_in}
 use Rattle.dq_find.specs.Candidates.{named_record, query_candidates}
 use Rattle.dq_find.specs.Queries.{records_asked, record_answer, answers_of_records}
 use Rattle.dq_find.specs.OpenSearches.{left_of}
-use Rattle.dq_find.proofs.InPages.{keys_of_rows}
-use Rattle.dq_find.proofs.Then.{named_then_answered}
+use Rattle.dq_find.proofs.SearchPages.{keys_of_rows}
+use Rattle.dq_find.proofs.PastRecords.{named_then_answered}
 use Rattle.dq_find.proofs.open_search.OpenSearch.begin.Goals as goal
 
 pub returns-then-branch : goal.returns-then-branch

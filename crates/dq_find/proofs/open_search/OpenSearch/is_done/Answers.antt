@@ -1,6 +1,6 @@
 use Rattle.std.proofs.Common.{◌≤◌, length, arith}
 use Rattle.std.proofs.lemmas.Bool.Decides.{nat_tests}
-use Rattle.dq_find.proofs.InPages.{none_left, nothing_left}
+use Rattle.dq_find.proofs.SearchPages.{none_left, nothing_left}
 use Rattle.dq_find.proofs.open_search.OpenSearch.is_done.Goals as goal
 
 pub returns-in-Named : goal.returns-in-Named

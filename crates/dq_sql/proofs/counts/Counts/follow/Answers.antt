@@ -1,5 +1,5 @@
 use Rattle.dq_tables.specs.declared.row.Kind.TheVariants.{Entry}
-use Rattle.dq_sql.proofs.Counted.{stored_right, new_right, gone_right, step_right, changed_right}
+use Rattle.dq_sql.proofs.RightCounts.{stored_right, new_right, gone_right, step_right, changed_right}
 use Rattle.dq_sql.proofs.counts.Counts.follow.Goals as goal
 
 pub returns-in-Stored : goal.returns-in-Stored
@@ -16,7 +16,7 @@ returns-in-EntryAdded c rows rising fits right =
 pub returns-in-EntryRemoved : goal.returns-in-EntryRemoved
 returns-in-EntryRemoved c rows rising fits right =
     let it = c.in-EntryRemoved in
-    rw it.is (gone_right it.inst it.field-1 rows c.args.self.now c.take.new.self rising (rw it.is at fits) right
+    rw it.is (gone_right it.institution it.field-1 rows c.args.self.now c.take.new.self rising (rw it.is at fits) right
     (λ row others kind inst. c.take.ensures row others kind (rw c.as_slice.ensures inst)))
 
 pub returns-in-StepAdded : goal.returns-in-StepAdded

@@ -1,4 +1,4 @@
-use Rattle.dq_sql.proofs.Ordered.{none_good}
+use Rattle.dq_sql.proofs.RowOrder.{none_good}
 use Rattle.dq_sql.proofs.judgement.Judgement.new.Goals as goal
 
 pub returns : goal.returns

@@ -1,6 +1,6 @@
 use Rattle.std.proofs.Math.Logic.{∥∥₁_elim, ∥∥₁_map}
 use Rattle.sqlite.specs.Files.{file_state}
-use Rattle.dq_sql.proofs.Restarted.{alone_holds}
+use Rattle.dq_sql.proofs.Restarts.{alone_holds}
 use Rattle.dq_sql.proofs.sql_tables.SqlTables+FileStore+D.close.Goals as goal
 
 pub returns-in-Ok : goal.returns-in-Ok

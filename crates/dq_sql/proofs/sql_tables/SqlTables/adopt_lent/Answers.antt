@@ -1,11 +1,11 @@
 use Rattle.std.proofs.Common.{Err, ◌∙◌, sym, ap, subst, arith}
 use Rattle.sqlite.specs.State.{HasCleanDisk}
 use Rattle.sqlite.specs.Held.{state}
-use Rattle.dq_sql.specs.Keeping.{MayLeave}
-use Rattle.dq_sql.specs.Kept.{one_list}
+use Rattle.dq_sql.specs.KeptRows.{MayLeave}
+use Rattle.dq_sql.specs.OneContent.{one_list}
 use Rattle.dq_sql.specs.declared.version.Version.TheVariants.{Two}
-use Rattle.dq_sql.proofs.Adopted.{found_keeps, found_settled, another_is_not}
-use Rattle.dq_sql.proofs.Restarted.{found_again}
+use Rattle.dq_sql.proofs.AdoptedStores.{found_keeps, found_settled, another_is_not}
+use Rattle.dq_sql.proofs.Restarts.{found_again}
 use Rattle.dq_sql.proofs.sql_tables.SqlTables.adopt_lent.Goals as goal
 
 pub over-requires-clause-keeps : goal.over-requires-clause-keeps

@@ -1,10 +1,10 @@
 use Rattle.std.proofs.Common.{◌∙◌, sym, subst, map}
 use Rattle.sqlite.specs.State.{HasCleanDisk}
 use Rattle.sqlite.specs.Held.{state}
-use Rattle.dq_sql.specs.Copying.{IsCopyOf}
-use Rattle.dq_sql.specs.Filling.{IsFilled}
-use Rattle.dq_sql.specs.Keeping.{MayLeave}
-use Rattle.dq_sql.proofs.Keeping.{filled_keeps, filled_settled}
+use Rattle.dq_sql.specs.StoreCopies.{IsCopyOf}
+use Rattle.dq_sql.specs.FirstRows.{IsFilled}
+use Rattle.dq_sql.specs.KeptRows.{MayLeave}
+use Rattle.dq_sql.proofs.KeptRows.{filled_keeps, filled_settled}
 use Rattle.dq_sql.proofs.CopiedStore.{not_filled}
 use Rattle.dq_sql.proofs.sql_tables.SqlTables.copy_lent.Goals as goal
 

@@ -1,9 +1,9 @@
 use Rattle.std.proofs.Common.{◌∙◌, subst, arith}
 use Rattle.sqlite.specs.State.{HasCleanDisk}
 use Rattle.sqlite.specs.Held.{state}
-use Rattle.dq_sql.specs.Filling.{IsFilled, IsNotMade}
-use Rattle.dq_sql.proofs.Keeping.{stays_kept, still_counted}
-use Rattle.dq_sql.proofs.Copied.{same_rows, not_made}
+use Rattle.dq_sql.specs.FirstRows.{IsFilled, IsNotMade}
+use Rattle.dq_sql.proofs.KeptRows.{stays_kept, still_counted}
+use Rattle.dq_sql.proofs.CopiedTables.{same_rows, not_made}
 use Rattle.dq_sql.proofs.sql_tables.SqlTables.copy_to.Goals as goal
 
 pub invariant_of-self : goal.invariant_of-self

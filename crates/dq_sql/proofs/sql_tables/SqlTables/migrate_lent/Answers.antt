@@ -1,11 +1,11 @@
 use Rattle.std.proofs.Common.{◌∙◌, sym, subst}
 use Rattle.sqlite.specs.State.{HasCleanDisk}
 use Rattle.sqlite.specs.Held.{state}
-use Rattle.dq_sql.specs.Filling.{IsFilled}
-use Rattle.dq_sql.specs.Keeping.{MayLeave}
+use Rattle.dq_sql.specs.FirstRows.{IsFilled}
+use Rattle.dq_sql.specs.KeptRows.{MayLeave}
 use Rattle.dq_sql.specs.Migration.{IsMigrated}
-use Rattle.dq_sql.proofs.Keeping.{filled_keeps, filled_settled}
-use Rattle.dq_sql.proofs.Migrated.{not_filled}
+use Rattle.dq_sql.proofs.KeptRows.{filled_keeps, filled_settled}
+use Rattle.dq_sql.proofs.Migrations.{not_filled}
 use Rattle.dq_sql.proofs.sql_tables.SqlTables.migrate_lent.Goals as goal
 
 pub over-requires-clause-keeps : goal.over-requires-clause-keeps

@@ -1,9 +1,9 @@
 use Rattle.std.proofs.Common.{[], ◌∙◌, sym, subst}
 use Rattle.sqlite.specs.State.{HasCleanDisk}
 use Rattle.sqlite.specs.Held.{state}
-use Rattle.dq_sql.specs.Keeping.{MayLeave}
-use Rattle.dq_sql.proofs.Keeping.{no_rows_sound, filled_keeps, filled_settled}
-use Rattle.dq_sql.proofs.Migrated.{unmade_itself}
+use Rattle.dq_sql.specs.KeptRows.{MayLeave}
+use Rattle.dq_sql.proofs.KeptRows.{no_rows_sound, filled_keeps, filled_settled}
+use Rattle.dq_sql.proofs.Migrations.{unmade_itself}
 use Rattle.dq_sql.proofs.sql_tables.SqlTables.open_lent.Goals as goal
 
 pub returns-then-not-is_new_store-clause-refused : goal.returns-then-not-is_new_store-clause-refused

@@ -3,7 +3,7 @@ use Rattle.std.proofs.Math.Logic.{∥∥₁_elim, ∥∥₁_map}
 use Rattle.sqlite.specs.State.{HasCleanDisk}
 use Rattle.sqlite.specs.Held.{state}
 use Rattle.dq_tables.specs.Rows.{after, operation_of}
-use Rattle.dq_sql.proofs.Keeping.{rows_set, made_kept, made_settles, undone_kept, undone_leaves, still_counted, followed_counted}
+use Rattle.dq_sql.proofs.KeptRows.{rows_set, made_kept, made_settles, undone_kept, undone_leaves, still_counted, followed_counted}
 use Rattle.dq_sql.proofs.sql_tables.SqlTablesTables.apply.Goals as goal
 
 pub invariant_of-self : goal.invariant_of-self

@@ -3,9 +3,9 @@ use Rattle.std.proofs.Math.Logic.{∥∥₁_elim, ∥∥₁_map}
 use Rattle.sqlite.specs.State.{HasCleanDisk}
 use Rattle.sqlite.specs.Held.{state}
 use Rattle.dq_tables.specs.declared.fault.TableFault.{TableFault}
-use Rattle.dq_tables.specs.Finding.{rows_of}
-use Rattle.dq_sql.specs.Reading.{HoldsOf}
-use Rattle.dq_sql.proofs.Keeping.{numbers_set, found_in, stays_kept, still_counted}
+use Rattle.dq_tables.specs.Lookups.{rows_of}
+use Rattle.dq_sql.specs.RowReads.{HoldsOf}
+use Rattle.dq_sql.proofs.KeptRows.{numbers_set, found_in, stays_kept, still_counted}
 use Rattle.dq_sql.proofs.sql_tables.SqlTablesTables.count.Goals as goal
 
 pub invariant_of-self : goal.invariant_of-self

@@ -1,8 +1,8 @@
 use Rattle.std.proofs.Common.{arith}
 use Rattle.sqlite.specs.State.{HasCleanDisk}
 use Rattle.sqlite.specs.Held.{state}
-use Rattle.dq_tables.specs.Finding.{row_at}
-use Rattle.dq_sql.proofs.Keeping.{row_set, if_ok, found_in, stays_kept, still_counted}
+use Rattle.dq_tables.specs.Lookups.{row_at}
+use Rattle.dq_sql.proofs.KeptRows.{row_set, if_ok, found_in, stays_kept, still_counted}
 use Rattle.dq_sql.proofs.sql_tables.SqlTablesTables.row.Goals as goal
 
 pub invariant_of-self : goal.invariant_of-self

@@ -1,8 +1,8 @@
 use Rattle.std.proofs.Common.{arith}
 use Rattle.sqlite.specs.State.{HasCleanDisk}
 use Rattle.sqlite.specs.Held.{state}
-use Rattle.dq_tables.specs.Choosing.{studies_in}
-use Rattle.dq_sql.proofs.Keeping.{rows_set, if_ok, found_in, stays_kept, still_counted}
+use Rattle.dq_tables.specs.StudyChoices.{studies_in}
+use Rattle.dq_sql.proofs.KeptRows.{rows_set, if_ok, found_in, stays_kept, still_counted}
 use Rattle.dq_sql.proofs.sql_tables.SqlTablesTables.studies_in.Goals as goal
 
 pub invariant_of-self : goal.invariant_of-self

@@ -2,7 +2,7 @@ use Rattle.std.proofs.Common.{◌≡◌, ◌++◌}
 use Rattle.std.specs.List.{filter}
 use Rattle.dq_tables.specs.declared.row.Row.{Row}
 use Rattle.dq_tables.specs.Rows.{record_of}
-use Rattle.dq_tables.specs.Choosing.{is_chosen}
+use Rattle.dq_tables.specs.StudyChoices.{is_chosen}
 use Rattle.dq_tables.proofs.choice.Choice.among.Given as goal
 
 abbrev pub invariant-loop-study : goal.invariant-loop-study

@@ -1,0 +1,8 @@
+use Rattle.std.proofs.Common.{◌≡◌, ◌++◌, drop, option_map}
+use Rattle.toml.specs.View.{items_view, array_view}
+use Rattle.dq_config.specs.Document.{each_item, institution_in}
+use Rattle.dq_config.proofs.document_reader.institutions.Given as goal
+
+abbrev pub invariant-loop-value : goal.invariant-loop-value
+invariant-loop-value l = each_item institution_in (array_view l.values)
+    ≡ option_map (λ others. l.institutions ++ others) (each_item institution_in (items_view (drop l.value-index l.values.items)))

@@ -1,0 +1,16 @@
+use Rattle.std.proofs.Common.{◌∙◌}
+use Rattle.toml.proofs.Views.{table_get}
+use Rattle.dq_config.specs.Document.{integer_at}
+use Rattle.dq_config.proofs.document_reader.integer_at.Goals as goal
+
+pub returns-in-Some : goal.returns-in-Some
+unfolding integer_at
+returns-in-Some c =
+    let found = table_get c.get.result c.args.key.now c.args.table.now.entries c.get.ensures.value in
+    c.as_integer.ensures ∙ rw (← rw c.in-Some.is at found)
+
+pub returns-in-None : goal.returns-in-None
+unfolding integer_at
+returns-in-None c =
+    let found = table_get c.get.result c.args.key.now c.args.table.now.entries c.get.ensures.value in
+    rw (← rw c.in-None.is at found)

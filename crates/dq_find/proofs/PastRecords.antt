@@ -1,0 +1,72 @@
+-- The records that there were, as those of rows.
+use Rattle.std.proofs.Common.{◌≡◌, ◌∙◌, ℕ, Bool, true, not, List, map, refl, sym, ap, subst}
+use Rattle.std.specs.Global.{Vec}
+use Rattle.std.specs.List.{filter, filter_map}
+use Rattle.std.specs.List.Sorted.{IsStrictlySortedBy}
+use Rattle.dq_dataset.specs.Facts.{IsDataSet}
+use Rattle.dq_list.specs.Octets.{octets_of_vectors}
+use Rattle.dq_match.specs.SeveralValues.{is_one_of_values}
+use Rattle.dq_match.proofs.Answering.{given_of_each}
+use Rattle.dq_tables.specs.declared.row.Kind.{Kind}
+use Rattle.dq_tables.specs.Lookups.{records_of}
+use Rattle.dq_tables.specs.Records.{AreInOrder}
+use Rattle.dq_tables.proofs.RecordLists.{listed_in_order}
+use Rattle.dq_tables.specs.declared.row.Row.{Row}
+use Rattle.dq_tables.specs.Rows.{Record, IsRising, octet_order, of, record_of, row_of}
+use Rattle.dq_tables.specs.Sound.{IsSound, is_own_row}
+use Rattle.dq_tables.proofs.Lens.{of-filter}
+use Rattle.dq_tables.proofs.Order.{each_filtered, IsRising-filter}
+use Rattle.dq_tables.proofs.TakenStudies.{DaysAreInOrder}
+use Rattle.dq_archive.specs.declared.additions.Addition.{Addition}
+use Rattle.dq_archive.specs.Additions.{is_later, without}
+use Rattle.dq_find.specs.declared.query.Query.{Query}
+use Rattle.dq_find.specs.Candidates.{own_values, looks_up, query_candidates, named_record, named_rows}
+use Rattle.dq_find.specs.Queries.{record_answer, answers_of_records}
+use Rattle.dq_find.proofs.RowAnswers.{row_answers}
+use Rattle.dq_find.proofs.AskedRecords.{EachAlone}
+use Rattle.dq_find.proofs.NamedLookups.{named_candidates, named_again, answered_of_candidates}
+
+module _ (later : List Addition) (institution : List ℕ) (rows : List Row) where
+  abbrev pub was : List Record
+  was = without later (of institution rows)
+
+  abbrev stays : Row → Bool
+  stays row = not (is_later later (record_of row))
+
+  pub rows_then : of institution (filter stays rows) ≡ was
+  unfolding without
+  rows_then = of-filter institution stays (λ (r : Record). not (is_later later r)) (λ row same. refl) rows
+
+  pub named_then : (query : Query) (uids : List (Vec ℕ)) → IsRising rows
+      → IsStrictlySortedBy (λ (a b : Vec ℕ). octet_order a.items b.items) uids
+      → ((value : List ℕ) → is_one_of_values value (octets_of_vectors uids) ≡ is_one_of_values value (own_values query))
+      → looks_up query.level (own_values query) ≡ true
+      → named_rows institution was query (octets_of_vectors uids) ≡ map (row_of institution) (query_candidates was query)
+  named_then query uids rising ordered same looked =
+      subst (λ (records : List Record). named_rows institution records query (octets_of_vectors uids) ≡ map (row_of institution) (query_candidates records query))
+      rows_then (named_candidates institution (filter stays rows) query uids (IsRising-filter stays rows rising) ordered same looked)
+
+  -- the studies are in order
+  pub ordered_then : (kind : Kind) → IsRising rows → AreInOrder (records_of kind was)
+  ordered_then kind rising =
+      subst (λ (records : List Record). AreInOrder (records_of kind records)) rows_then
+      (listed_in_order kind institution (filter stays rows) (IsRising-filter stays rows rising))
+
+  pub answered_then : (called : List ℕ) (query : Query) → IsSound rows → IsDataSet query.keys → EachAlone query.keys → DaysAreInOrder
+      → row_answers was called query (map (row_of institution) (query_candidates was query)) ≡ answers_of_records was called query
+  answered_then called query sound facts alone days =
+      subst (λ (records : List Record). row_answers records called query (map (row_of institution) (query_candidates records query)) ≡ answers_of_records records called query)
+      rows_then
+      (answered_of_candidates institution (filter stays rows) called query (IsRising-filter stays rows sound.rising)
+      (each_filtered (λ (row : Row). is_own_row row ≡ true) stays rows sound.own) facts alone days)
+
+  -- the answers of the records that are named by their keys again
+  pub named_then_answered : (called : List ℕ) (query : Query) → IsSound rows → IsDataSet query.keys → EachAlone query.keys → DaysAreInOrder
+      → filter_map (record_answer was called query) (filter_map (named_record was query) (map (λ (r : Record). r.key) (query_candidates was query)))
+      ≡ answers_of_records was called query
+  named_then_answered called query sound facts alone days =
+      ap (filter_map (record_answer was called query))
+      (subst (λ (records : List Record). filter_map (named_record records query) (map (λ (r : Record). r.key) (query_candidates records query)) ≡ query_candidates records query)
+      rows_then (named_again institution (filter stays rows) query (IsRising-filter stays rows sound.rising)))
+      ∙ sym (given_of_each (λ (row : Row). record_answer was called query (record_of row)) (row_of institution) (query_candidates was query))
+      ∙ answered_then called query sound facts alone days

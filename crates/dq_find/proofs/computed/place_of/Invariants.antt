@@ -1,6 +1,0 @@
-use Rattle.std.proofs.Common.{◌≡◌, ◌++◌, take, drop}
-use Rattle.dq_find.specs.Computed.{put_in_order}
-use Rattle.dq_find.proofs.computed.place_of.Given as goal
-
-abbrev pub invariant-loop-at : goal.invariant-loop-at
-invariant-loop-at l = put_in_order l.value l.values ≡ take l.at l.values ++ put_in_order l.value (drop l.at l.values)

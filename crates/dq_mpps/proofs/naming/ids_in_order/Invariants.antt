@@ -1,6 +1,0 @@
-use Rattle.std.proofs.Common.{drop}
-use Rattle.dq_mpps.proofs.Named.{SoFar}
-use Rattle.dq_mpps.proofs.naming.ids_in_order.Given as goal
-
-abbrev pub invariant-loop-id : goal.invariant-loop-id
-invariant-loop-id l = SoFar l.ids.keys (drop l.id-index l.id-items) l.id-items

@@ -1,0 +1,18 @@
+use Rattle.std.proofs.Common.{◌∙◌}
+use Rattle.std.proofs.lemmas.Result.{IfOk-weaker}
+use Rattle.sqlite.specs.Held.{state}
+use Rattle.dq_sql.proofs.ReadRows.{found_row, holds_weaker}
+use Rattle.dq_sql.proofs.Silent.{row_silent}
+use Rattle.dq_sql.proofs.row_reader.row.Goals as goal
+
+pub returns-clause-found : goal.returns-clause-found
+returns-clause-found g c clean =
+    let shown = rw (c.to_sql.ensures, c.from.ensures, c.number.ensures) at (c.in_ok-answer.ensures.shown clean) in
+    let found = found_row (state g.S.Store c.args.conn.now) (state g.S.Store c.answered.new.conn) c.args.kind c.args.institution.now c.in_ok-answer.answer.items c.args.key.now shown in
+    IfOk-weaker c.first_shown.result _ _ (λ it e. holds_weaker _ _ _ (λ rows h. (rw c.as_slice.ensures.value at e) ∙ h) found) c.first_shown.ensures
+
+pub returns-in_err-answer-clause-stays : goal.returns-in_err-answer-clause-stays
+returns-in_err-answer-clause-stays g c = c.in_err-answer.ensures.stays row_silent
+
+pub returns-clause-stays : goal.returns-clause-stays
+returns-clause-stays g c = c.in_ok-answer.ensures.stays row_silent

@@ -1,0 +1,201 @@
+//! The answers to a worklist query (PS3.4 section K.4.1.3).
+ghost use Rattle.std.specs.Prelude.{◌≡◌, false, List, [], map, IfOk};
+ghost use Rattle.std.specs.Option.{option_copied, option_to_list};
+ghost use Rattle.std.specs.List.{filter_map};
+ghost use Rattle.dq_dimse.specs.Holding.{plain_message};
+ghost use Rattle.dq_match.specs.Answers.{found_part};
+ghost use Rattle.dq_match.specs.Parts.{part_of, found_of};
+ghost use Rattle.dq_match.specs.Identifiers.{HasKnownTags};
+ghost use Rattle.dq_match.specs.Matching.{fits};
+ghost use Rattle.dq_tables.specs.Records.{data_set_of};
+ghost use Rattle.dq_tables.specs.declared.row.Row.{Row as TheRow};
+ghost use Rattle.dq_tables.specs.TableStates.{Reads};
+ghost use Rattle.dq_tables.specs.Rows.{Record, of, record_of, row_of};
+ghost use Rattle.dq_archive.specs.Archives.{QueriesOnly};
+ghost use Rattle.dq_worklist.specs.Candidates.{id_asked, entry_candidates, entry_answer};
+ghost use Rattle.dq_tables.specs.ServiceEffects.{Serves};
+ghost use Rattle.dq_worklist.specs.Queries.{listed_by, worklist_outcome, keys_outcome};
+
+use crate::worklist_query::{Query, query_at, query_of};
+use dq_archive::Archive;
+use dq_config::Institution;
+use dq_dataset::{DataSet, Syntax};
+use dq_dimse::Message;
+use dq_dimse::status::SUCCESS;
+use dq_list::Listed;
+use dq_match::laws::keys_are_met_alone_and_as_a_period;
+use dq_match::{Found, PageCollector, PreparedKeys, is_plain, shown};
+use dq_tables::laws::honest_rows_are_sound;
+use dq_tables::{Kind, Row, TableFault, Tables, sole_item_at};
+use dq_vr::{Tag, tags};
+use std::alloc::{AllocError, Global};
+
+/// Keys that a kept element does not meet alone: those that tell how a query is answered, and the
+/// start of a procedure step, which may be met as a period.
+static MET_LATER: [Tag; 6] = [
+    tags::SPECIFIC_CHARACTER_SET,
+    tags::QUERY_RETRIEVE_LEVEL,
+    tags::RETRIEVE_AE_TITLE,
+    tags::INSTANCE_AVAILABILITY,
+    tags::SCHEDULED_PROCEDURE_STEP_START_DATE,
+    tags::SCHEDULED_PROCEDURE_STEP_START_TIME,
+];
+
+/// The id of the step that the keys ask for, where it is one value without wild cards.
+#[tactic(auto, unfolding(crate::specs::Candidates::id_asked))]
+fn id_asked(keys: &DataSet) -> Option<&[u8]>
+    ensures { option_copied result ≡ id_asked keys.now }
+{
+    let step = sole_item_at(keys, tags::SCHEDULED_PROCEDURE_STEP_SEQUENCE)?;
+    let id = step.sole_value(tags::SCHEDULED_PROCEDURE_STEP_ID)?;
+    if is_plain(id) { Some(id) } else { None }
+}
+
+/// A row that was looked up, where there is one.
+fn listed(alloc: Global, row: Option<Row>) -> Result<Listed<Row>, AllocError>
+    ensures { IfOk result (λ rows. rows ≡ option_to_list row) }
+{
+    let mut rows = Listed::empty(alloc);
+    if let Some(row) = row {
+        rows.push(row)?;
+    }
+    Ok(rows)
+}
+
+/// The entries that are looked at: where the keys ask for one step's id, no other entry can match,
+/// and where they do not, none that is started.
+fn candidates<T: Tables>(
+    archive: &mut Archive<'_, T>,
+    keys: &DataSet,
+) -> Result<Listed<Row>, TableFault>
+    ensures { QueriesOnly T.state archive.old archive.new (λ records.
+        map (row_of archive.old.institution.now.name) (entry_candidates records keys.now)) result }
+{
+    let Some(id) = id_asked(keys) else {
+        return archive.waiting();
+    };
+    let row = archive.row(Kind::Entry, id)?;
+    Ok(listed(archive.alloc, row)?)
+}
+
+/// Whether an entry can fit the keys, as far as its octets tell before they are read.
+fn may_fit(keys: &PreparedKeys, row: &Row) -> bool
+    ensures { result ≡ false → fits keys.now (data_set_of row.now.octets) ≡ false }
+{
+    keys_are_met_alone_and_as_a_period();
+    keys.lent_meets(&MET_LATER, row.octets.as_slice())
+}
+
+/// The answer that a row gives to the keys. An entry that a performed procedure step has started is
+/// no longer listed (PS3.4 section K.6.1.2).
+fn answer_of(
+    alloc: Global,
+    keys: &DataSet,
+    prepared: &PreparedKeys,
+    row: &Row,
+) -> Result<Option<DataSet>, AllocError>
+    requires known { HasKnownTags keys.now }
+    requires prepared { prepared.now ≡ keys.now }
+    ensures { IfOk result (λ answer. answer ≡ entry_answer keys.now (record_of row.now)) }
+{
+    if row.started || !may_fit(prepared, row) {
+        return Ok(None);
+    }
+    let held = row.data_set(alloc)?;
+    if !prepared.fits(&held) {
+        return Ok(None);
+    }
+    Ok(Some(shown(alloc, keys, &held)?))
+}
+
+/// The answers that rows give to the keys, from a place on, at most so many where there is a most. No
+/// row is looked at behind the last of them.
+fn answers_of(
+    alloc: Global,
+    keys: &DataSet,
+    rows: &[Row],
+    from: usize,
+    most: Option<usize>,
+) -> Result<Listed<DataSet>, AllocError>
+    requires { HasKnownTags keys.now }
+    ensures { IfOk result (λ answers. answers ≡ part_of from most (filter_map
+        (λ (row : TheRow). entry_answer keys.now (record_of row)) rows.now)) }
+{
+    let prepared = PreparedKeys::of(alloc, keys)?;
+    let mut part = PageCollector::new(alloc, from, most);
+    for row in rows {
+        if part.is_full() {
+            return Ok(part.into_answers());
+        }
+        let answer = answer_of(alloc, keys, &prepared, row)?;
+        part.take(answer)?;
+    }
+    Ok(part.into_answers())
+}
+
+/// Answers a worklist C-FIND from the entries of an institution that wait: those that fit, in order
+/// of the octets of their key, each with what the keys ask for. It is refused with status A700 where
+/// the identifier is too long, C000 where it is unreadable, and A900 where it has values that are
+/// not well formed (PS3.4 section K.4.1.1.4).
+#[tactic(auto, using(dq_tables::proofs::TableCalls::serves_read), unfolding(crate::specs::Queries::worklist_outcome))]
+pub fn query<T: Tables>(
+    tables: &mut T,
+    institution: &Institution,
+    message: &Message,
+    syntax: Syntax,
+) -> Result<Found, TableFault>
+    ensures { Serves (T.state tables.old) (T.state tables.new) institution.now.name
+        (λ (records : List Record). (worklist_outcome records (plain_message message.now) syntax, [])) result }
+{
+    let mut archive = Archive::new(tables, institution);
+    let asked = query_of(archive.alloc, message, syntax)?;
+    let found = answers_to(&mut archive, asked, 0, None)?;
+    Ok(found)
+}
+
+/// Answers keys that no message brought, as `query` answers the identifier of a message: the answers
+/// from a place on, at most so many. Nothing is changed.
+#[tactic(auto, unfolding(crate::specs::Queries::keys_outcome))]
+pub fn query_by_keys<T: Tables>(
+    tables: &mut T,
+    institution: &Institution,
+    identifier: &DataSet,
+    from: usize,
+    most: usize,
+) -> Result<Found, TableFault>
+    ensures found { (T.state tables.new).honest → IfOk result (λ found. found ≡ found_part from most
+        (keys_outcome (of institution.now.name (T.state tables.old).rows) identifier.now)) }
+    ensures reads { Reads (T.state tables.old) (T.state tables.new) result }
+{
+    let mut kept = Archive::new(tables, institution);
+    let asked = query_at(kept.alloc, identifier)?;
+    answers_to(&mut kept, asked, from, Some(most))
+}
+
+/// The answers to a query from a place on, at most so many where there is a most, or the status that
+/// refuses it.
+fn answers_to<T: Tables>(
+    archive: &mut Archive<'_, T>,
+    asked: Result<Query, u16>,
+    from: usize,
+    most: Option<usize>,
+) -> Result<Found, TableFault>
+    requires { IfOk asked (λ query. HasKnownTags query.keys) }
+    ensures { QueriesOnly T.state archive.old archive.new (λ (records : List Record).
+        found_of from most (listed_by records asked)) result }
+{
+    let query = match asked {
+        Ok(query) => query,
+        Err(status) => return Ok(Found::refused(archive.alloc, status)),
+    };
+    query.keys.has_facts();
+    honest_rows_are_sound::<T>();
+    keys_are_met_alone_and_as_a_period();
+    let rows = candidates(archive, &query.keys)?;
+    let answers = answers_of(archive.alloc, &query.keys, rows.as_slice(), from, most)?;
+    Ok(Found {
+        status: SUCCESS,
+        optional: query.optional,
+        answers,
+    })
+}
