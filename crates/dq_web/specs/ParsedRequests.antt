@@ -264,8 +264,8 @@ IsJudged guard head = (aim : Aim) × IsLetIn guard head aim
 abbrev pub is_fuzzy : List ℕ → Bool
 is_fuzzy part = bytes_eq part (codes "fuzzymatching=true")
 
--- how the answers to a search are wanted: where none is found an empty array, in place of no content, where
--- DICOM JSON is asked for by its name; whether fuzzy matching is; and whether a parameter is unknown
+-- how the answers to a search are wanted: where none is found an empty array, in place of no content, where an
+-- Accept allows DICOM JSON; whether matching is to be fuzzy; and whether a parameter is unknown
 abbrev pub wish_of : Fields → List ℕ → Wish
 wish_of fields query = record {
   wants_array = fields.asks_dicom_json;

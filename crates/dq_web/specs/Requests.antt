@@ -39,20 +39,20 @@ is_between octet = octet == 44 || (octet == 32 || (octet == 9 || (octet == 59)))
 abbrev pub is_close : List ℕ → Bool
 is_close word = is_named word (codes "close")
 
--- the media type of DICOM JSON (PS3.18 section 8.7.3)
-abbrev pub is_dicom_json : List ℕ → Bool
-is_dicom_json word = is_named word (codes "application/dicom+json")
+-- a range of media types in which DICOM JSON is (RFC 9110 section 12.5.1, PS3.18 section 8.7.3)
+abbrev pub is_dicom_json_range : List ℕ → Bool
+is_dicom_json_range word = is_named word (codes "application/dicom+json")
+    || (is_named word (codes "application/*") || is_named word (codes "*/*"))
 
--- a range of media types in which JSON is (RFC 9110 section 12.5.1)
+-- one in which JSON is, of DICOM or any
 abbrev pub is_json_range : List ℕ → Bool
-is_json_range word = is_dicom_json word || (is_named word (codes "application/json")
-    || (is_named word (codes "application/*") || is_named word (codes "*/*")))
+is_json_range word = is_dicom_json_range word || is_named word (codes "application/json")
 
 -- a word of a list passes a test
 abbrev pub passes_word : Test → List ℕ → Bool
 passes_word test.Present word = true
 passes_word test.Close word = is_close word
-passes_word test.DicomJson word = is_dicom_json word
+passes_word test.DicomJson word = is_dicom_json_range word
 passes_word test.Json word = is_json_range word
 
 -- one of the words of a list does

@@ -2,7 +2,7 @@
 ghost use Rattle.std.specs.Prelude.{◌≡◌, ◌≤◌, ◌||◌, ◌==◌, length, map, codes, not, All, IfOk, option_copied};
 ghost use Rattle.httparse.specs.Spans.{IsHeaderWithin, IsRequestWithin, IsRequestOf, header_bytes};
 ghost use Rattle.dq_web.specs.declared.cutting.Test.TheVariants as test;
-ghost use Rattle.dq_web.specs.Requests.{is_named, IsSole, AreFields, IsBodyLength, IsHead, IsCutOff, IsContentLength, is_between, is_json_range, passes_word, passes, any_passes, is_expecting, is_of_head};
+ghost use Rattle.dq_web.specs.Requests.{is_named, IsSole, AreFields, IsBodyLength, IsHead, IsCutOff, IsContentLength, is_between, is_dicom_json_range, is_json_range, passes_word, passes, any_passes, is_expecting, is_of_head};
 
 use crate::refusal::Refusal;
 use httparse::spans::{EMPTY_HEADER_SPAN, HeaderSpan, RequestSpans, parse_request};
@@ -32,7 +32,7 @@ pub struct Fields<'a> {
     pub closes: bool,
     /// Whether JSON is accepted: an Accept says so, or there is none.
     pub accepts_json: bool,
-    /// Whether an Accept names the media type of DICOM JSON.
+    /// Whether an Accept allows DICOM JSON, by its name or by a range.
     pub asks_dicom_json: bool,
 }
 
@@ -117,14 +117,20 @@ fn is_between(octet: u8) -> bool
     octet == b',' || octet == b' ' || octet == b'\t' || octet == b';'
 }
 
-/// Whether a word is a range of media types in which JSON is.
+/// Whether a word is a range of media types in which DICOM JSON is.
+fn is_dicom_json_range(word: &[u8]) -> bool
+    ensures { result ≡ is_dicom_json_range word.now }
+{
+    is_named(word, b"application/dicom+json")
+        || is_named(word, b"application/*")
+        || is_named(word, b"*/*")
+}
+
+/// Whether a word is one in which JSON is, of DICOM or any.
 fn is_json_range(word: &[u8]) -> bool
     ensures { result ≡ is_json_range word.now }
 {
-    is_named(word, b"application/dicom+json")
-        || is_named(word, b"application/json")
-        || is_named(word, b"application/*")
-        || is_named(word, b"*/*")
+    is_dicom_json_range(word) || is_named(word, b"application/json")
 }
 
 /// Whether a word of a list passes a test.
@@ -134,7 +140,7 @@ fn passes_word(wanted: Test, word: &[u8]) -> bool
     match wanted {
         Test::Present => true,
         Test::Close => is_named(word, b"close"),
-        Test::DicomJson => is_named(word, b"application/dicom+json"),
+        Test::DicomJson => is_dicom_json_range(word),
         Test::Json => is_json_range(word),
     }
 }

@@ -299,4 +299,5 @@ class Front:
         if answer.status in (200, 204) and warnings:
             answer.fields["Warning"] = ", ".join(warnings)
         return Answer(200, DICOM_JSON, b"[]",
-                      answer.fields) if answer.status == 204 and DICOM_JSON in ranges else answer
+                      answer.fields) if answer.status == 204 and ranges & {
+            DICOM_JSON, "application/*", "*/*"} else answer
