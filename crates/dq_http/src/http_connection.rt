@@ -63,7 +63,7 @@ pub(crate) struct HttpConnection {
 impl HttpConnection {
     /// One that has just come, at an instant if it is known.
     pub fn new(alloc: Global, place: usize, peer: Option<SocketAddr>, now: Option<Instant>) -> Self
-        ensures { IsNew place peer result }
+        ensures comes { IsNew place peer result }
         ensures since { result.since ≡ now }
     {
         HttpConnection {
