@@ -21,8 +21,11 @@ use std::io;
 use std::net::{IpAddr, SocketAddr};
 use std::time::Duration;
 
-/// A client of the console or of the web front that says nothing for so many seconds is let go.
-const CLIENT_QUIET: u64 = 60;
+/// A client of the console that says nothing for so many seconds is let go.
+const CONSOLE_QUIET: u64 = 60;
+
+/// The same of the web front: a little more than a body has, so that who is late with one is told so.
+const WEB_QUIET: u64 = 65;
 
 /// The reason why no connection can come in.
 #[derive(Clone, Copy, Debug, PartialEq, Eq)]
@@ -215,11 +218,12 @@ pub(crate) fn connections_of(count: u32) -> Option<usize>
     Some(count as usize)
 }
 
-// Has those who say nothing let go, and at once those of whose address there are as many as may be.
-fn limit_clients(wires: &mut SocketWires, peer_connections: Option<usize>) {
+// Has those who say nothing for so many seconds let go, and at once those of whose address there are
+// as many as may be.
+fn limit_clients(wires: &mut SocketWires, quiet: u64, peer_connections: Option<usize>) {
     wires.set_limits(Limits {
         artim: None,
-        quiet: Some(Duration::from_secs(CLIENT_QUIET)),
+        quiet: Some(Duration::from_secs(quiet)),
         peer_connections,
     });
 }
@@ -228,7 +232,7 @@ fn limit_clients(wires: &mut SocketWires, peer_connections: Option<usize>) {
 fn console_at(alloc: Global, rt: &HostRuntime, path: &str) -> Result<SocketWires, ListenError> {
     match SocketWires::listen_at(alloc, rt, path) {
         Ok(mut wires) => {
-            limit_clients(&mut wires, None);
+            limit_clients(&mut wires, CONSOLE_QUIET, None);
             Ok(wires)
         }
         Err(error) => Err(listen_error_of(&error)),
@@ -281,7 +285,8 @@ fn front_at<H: Host>(
         return Err(ListenError::Failed);
     };
     let mut wires = sockets_at(alloc, rt, address, web.port)?;
-    limit_clients(&mut wires, connections_of(web.peer_connections));
+    let peers = connections_of(web.peer_connections);
+    limit_clients(&mut wires, WEB_QUIET, peers);
     Ok(HttpServer::new(rt, wires, state)?)
 }
 

@@ -365,5 +365,5 @@ def random_octets(tally: Tally, pair: Pair, count: int = 300) -> None:
             if one.faults:
                 tally.check("octets at random", False, one.faults, bytes(octets))
     tally.check("octets at random are refused in many ways",
-                {204, 400, 401} <= statuses <= {200, 204, 400, 401, 403, 404, 405,
+                {200, 400, 401} <= statuses <= {200, 204, 400, 401, 403, 404, 405,
                                                 406, 413, 421, 431, 501}, statuses)
