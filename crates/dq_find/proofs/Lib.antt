@@ -19,4 +19,4 @@ mod WorkedExamples
 mod PastRecords
 mod SearchPages
 pub mod LastingRecords
-mod LazyAnswers
+mod FoundAnswers

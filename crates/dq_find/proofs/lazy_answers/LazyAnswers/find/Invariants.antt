@@ -1,5 +1,5 @@
 use Rattle.std.proofs.Common.{◌<◌}
-use Rattle.dq_find.proofs.LazyAnswers.{FoundSoFar}
+use Rattle.dq_find.proofs.FoundAnswers.{FoundSoFar}
 use Rattle.dq_find.proofs.lazy_answers.LazyAnswers.find.Given as goal
 
 abbrev pub invariant-loop : goal.invariant-loop
