@@ -27,7 +27,10 @@ const SERIES: &[u8] =
     b"GET /NORTH/rs/studies/1.2/series?StudyInstanceUID=9&Modality=CT HTTP/1.1\r\n\
     host: localhost:8080\r\nAuthorization: Bearer abc\r\n\r\n";
 
-const MISSPELLED: &[u8] = b"GET /NORTH/rs/studies?offset=1&Patient=ROE HTTP/1.1\r\n\
+const MISSPELLED: &[u8] = b"GET /NORTH/rs/studies?offset=1&limit=ROE HTTP/1.1\r\n\
+    host: localhost:8080\r\nAuthorization: Bearer abc\r\n\r\n";
+
+const UNKNOWN: &[u8] = b"GET /NORTH/rs/studies?Patient=ROE&StudyInstanceUID=1.2,1.3 HTTP/1.1\r\n\
     host: localhost:8080\r\nAuthorization: Bearer abc\r\n\r\n";
 
 const FOREIGN: &[u8] = b"GET /SOUTH/rs/studies HTTP/1.1\r\n\
@@ -83,6 +86,7 @@ fn sent(
         wish: Wish {
             wants_array: is_wished,
             is_fuzzy: is_wished,
+            has_unknown: false,
         },
         framing: framing_of(false, false),
     };
@@ -172,6 +176,20 @@ fn searches_are_asked(rt: HostRuntime) -> Result<(), Fail> {
 }
 
 #[test]
+fn unknown_parameters_are_passed_over(rt: HostRuntime) -> Result<(), Fail> {
+    let question = question_in(rt.alloc(), UNKNOWN)?;
+    assert!(rt; question.wish.has_unknown);
+    let Request::Search(search) = question.asked else {
+        return Err("no search")?;
+    };
+    let keys = search.keys.as_slice();
+    assert_eq!(rt; keys.len(), 1);
+    assert_eq!(rt; keys[0].tag, tags::STUDY_INSTANCE_UID);
+    assert_eq!(rt; keys[0].value.as_slice(), b"1.2\\1.3".as_slice());
+    Ok(())
+}
+
+#[test]
 fn searches_are_refused(rt: HostRuntime) -> Result<(), Fail> {
     let guard = guard_of(rt.alloc())?;
     let Cut::Whole(request) = cut_off(FOREIGN) else {
@@ -185,7 +203,7 @@ fn searches_are_refused(rt: HostRuntime) -> Result<(), Fail> {
     let ParsedRequest::Misspelled(word) = ask(rt.alloc(), &guard, &request)? else {
         return Err("no word")?;
     };
-    assert_eq!(rt; word.as_str(), "Patient=ROE");
+    assert_eq!(rt; word.as_str(), "limit=ROE");
     let refused = misspelled(rt.alloc(), "a\"b", framing_of(false, false))?.octets;
     assert!(rt; refused.starts_with(b"HTTP/1.1 400 Bad Request\r\n"));
     assert!(rt; refused.ends_with(b"\r\n\r\n{\"refused\":\"keyword a\\\"b\"}"));
