@@ -1,9 +1,10 @@
 -- What a connection of the web front reads and writes.
-use Rattle.std.specs.Prelude.{◌≡◌, ◌⊎◌, ◌++◌, ◌&&◌, ℕ, ◌<◌, ◌*◌, ◌-◌, nat_le, Bool, true, false, not, is_some, IsTrue, if◌then◌else◌, List, [], length, drop, Option, Some, None, Result}
+use Rattle.std.specs.Prelude.{◌≡◌, ◌⊎◌, ◌++◌, ◌&&◌, ℕ, ◌<◌, ◌/◌, ◌-◌, nat_le, Bool, true, false, not, is_some, IsTrue, if◌then◌else◌, List, [], length, drop, Option, Some, None, Result}
 use Rattle.std.specs.Borrow.{Bor}
 use Rattle.std.specs.Time.{instant_nanos}
 use Rattle.std.specs.declared.net.socket_addr.SocketAddr.{SocketAddr}
 use Rattle.std.specs.declared.time.Instant.{Instant}
+use Rattle.httpdate.specs.declared.date.HttpDate.{HttpDate}
 use Rattle.dq_config.specs.declared.config.Institution.{Institution}
 use Rattle.dq_list.specs.Lengths.{is_empty}
 use Rattle.dq_request.specs.declared.request.Request.{Request}
@@ -16,6 +17,7 @@ use Rattle.dq_wires.specs.Logs.{Logs}
 use Rattle.dq_wires.specs.declared.calls.Call.{Call}
 use Rattle.dq_wires.specs.declared.calls.Call.TheVariants as call
 use Rattle.dq_wires.specs.declared.calls.WireFault.{WireFault}
+use Rattle.dq_http.specs.declared.http_state.Answer.{Answer}
 use Rattle.dq_http.specs.declared.http_state.RequestOutcome.{RequestOutcome}
 use Rattle.dq_http.specs.declared.http_state.RequestOutcome.TheVariants as outcome
 use Rattle.dq_http.specs.declared.http_state.Given.{Given}
@@ -148,6 +150,11 @@ abbrev pub going_on : HttpConnection → HttpConnection
 going_on connection = if connection.is_continued then connection
     else record (with_response connection CONTINUE.now) { is_continued = true }
 
+-- the answer to the request at the front of what came is given, and its octets are taken off
+abbrev pub TakesAnswer : Answer → HttpConnection → HttpConnection → Type 0
+TakesAnswer answer old new = (mid : HttpConnection) × IsTakenOff answer.extent old mid
+    × (new ≡ record mid { stage = stage_of answer.given; is_last = answer.is_last; words = answer.words; begun = new.begun })
+
 -- what a connection becomes by what is done for the octets that came of it
 abbrev pub Takes : Option Instant → RequestOutcome → HttpConnection → HttpConnection → Type 0
 Takes now outcome.AwaitHead old new = new ≡ seen old
@@ -155,8 +162,7 @@ Takes now outcome.AwaitBody old new = new ≡ awaiting_body now (seen old)
 Takes now outcome.GoOn old new = new ≡ going_on (awaiting_body now (seen old))
 Takes now (outcome.Refuse words written) old new =
     new ≡ record (with_response (seen old) written.octets.items) { is_last = true }
-Takes now (outcome.Answer answer) old new = (mid : HttpConnection) × IsTakenOff answer.extent old mid
-    × (new ≡ record mid { stage = stage_of answer.given; is_last = answer.is_last; words = answer.words; begun = new.begun })
+Takes now (outcome.Answer answer) old new = TakesAnswer answer old new
 
 abbrev pub is_reading : Stage → Bool
 is_reading stage.Reading = true
@@ -183,19 +189,20 @@ abbrev pub seconds_for : Bool → ℕ
 seconds_for false = 15
 seconds_for true = 60
 
--- as long as that has passed since an instant
+-- so many whole seconds have passed since an instant
 abbrev pub is_past : Option Instant → Option Instant → ℕ → Bool
 is_past (Some now) (Some since) seconds =
-    nat_le (seconds * 1_000_000_000) (instant_nanos now - instant_nanos since)
+    nat_le seconds ((instant_nanos now - instant_nanos since) / 1_000_000_000)
 is_past now since seconds = false
 
 -- what a connection waits for did not come in that time
 abbrev pub is_late : Option Instant → HttpConnection → Bool
-is_late now connection = is_reading connection.stage && is_past now connection.since (seconds_for connection.awaits_body)
+is_late now connection =
+    is_past now connection.since (seconds_for connection.awaits_body) && is_reading connection.stage
 
 -- it is told so, and nothing comes after that
 abbrev pub IsRefusedLate : HttpConnection → HttpConnection → Type 0
-IsRefusedLate old new = (written : Written) × IsTooLate written
+IsRefusedLate old new = (date : Option HttpDate) × (written : Written) × IsTooLate date written
     × (new ≡ record (with_response (seen old) written.octets.items) { is_last = true })
 
 -- what came is taken up, unless it is late

@@ -1,5 +1,6 @@
 -- What is done for the octets that came of a connection.
-use Rattle.std.specs.Prelude.{◌≡◌, ℕ, true, IsTrue, List, string_bytes}
+use Rattle.std.specs.Prelude.{◌≡◌, ℕ, true, false, IsTrue, List, Option, string_bytes}
+use Rattle.httpdate.specs.declared.date.HttpDate.{HttpDate}
 use Rattle.dq_web.specs.declared.parsed_request.ParsedRequest.{ParsedRequest}
 use Rattle.dq_web.specs.declared.parsed_request.ParsedRequest.TheVariants as asked
 use Rattle.dq_web.specs.declared.parsed_request.Question.{Question}
@@ -55,8 +56,8 @@ abbrev pub IsAwaited : Guard → List ℕ → Head → Type 0
 IsAwaited guard came head = IsCutOff came (cut.Begun head) × IsJudged guard head
 
 -- the response to a request that did not come in the time that it has (RFC 9110 section 15.5.9)
-abbrev pub IsTooLate : Written → Type 0
-IsTooLate written = (framing : Framing) × (framing.is_last ≡ true) × IsRefusal refusal.Time framing written
+abbrev pub IsTooLate : Option HttpDate → Written → Type 0
+IsTooLate date written = IsRefusal refusal.Time (record { is_last = true; is_head = false; date = date }) written
 
 -- Nothing is done for what is no whole head, or for a head that is let in, whose body is awaited; only such a
 -- sender is told to go on. A refusal ends the connection.

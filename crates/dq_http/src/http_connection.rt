@@ -1,9 +1,8 @@
 //! A connection of the web front.
-ghost use Rattle.std.specs.Prelude.{◌≡◌, Option, option_copied, IfOk, OnOk};
+ghost use Rattle.std.specs.Prelude.{◌≡◌, option_copied, IfOk, OnOk};
 ghost use Rattle.std.specs.Bool.{OnTrue};
-ghost use Rattle.std.specs.declared.time.Instant.{Instant};
 ghost use Rattle.dq_web.specs.Answers.{IsReplyTo, IsResponse};
-ghost use Rattle.dq_http.specs.HttpConnections.{IsNew, IsOver, IsRest, WritesRest, IsSent, IsRead, IsTakenOff, with_response, AnswersAt, seen, awaiting_body, begun_wait, is_late, IsRefusedLate, Takes, TakesUp, TakesOrRefuses, Moves, Turns, is_waiting, is_busy, asked_in, asks_report};
+ghost use Rattle.dq_http.specs.HttpConnections.{IsNew, IsOver, IsRest, WritesRest, IsSent, IsRead, IsTakenOff, with_response, AnswersAt, seen, awaiting_body, begun_wait, is_late, IsRefusedLate, TakesAnswer, Takes, TakesUp, TakesOrRefuses, Moves, Turns, is_waiting, is_busy, asked_in, asks_report};
 
 use crate::http_state::{Answer, Given, HttpState, RequestOutcome};
 use crate::request_log::Notes;
@@ -13,7 +12,7 @@ use dq_web::{Question, Written};
 use dq_wires::{ReadTurn, WireFault, Wires};
 use std::alloc::{AllocError, Global};
 use std::net::SocketAddr;
-use std::time::{Duration, Instant};
+use std::time::Instant;
 
 /// The seconds in which the head of a request has to come, from the first octet of it, and of the first
 /// request from when the connection came.
@@ -238,8 +237,7 @@ impl HttpConnection {
 
     // Takes the answer to the request that stands at the front of what came.
     fn take(&mut self, answer: Answer, notes: &mut Notes) -> Result<(), AllocError>
-        ensures { (now : Option Instant)
-            → OnOk result (Takes now (RequestOutcome.Answer answer) self.old self.new) }
+        ensures { OnOk result (TakesAnswer answer self.old self.new) }
     {
         self.take_off(answer.extent)?;
         self.is_last = answer.is_last;
@@ -340,8 +338,8 @@ impl HttpConnection {
         };
         match (now, self.since) {
             (Some(now), Some(since)) => {
-                matches!(self.stage, Stage::Reading)
-                    && now.duration_since(since) >= Duration::from_secs(seconds)
+                now.duration_since(since).as_secs() >= seconds
+                    && matches!(self.stage, Stage::Reading)
             }
             _ => false,
         }

@@ -153,7 +153,7 @@ impl HttpState {
 
     /// The response to a request that did not come in the time that it has.
     pub(crate) fn too_late(&self, date: Option<HttpDate>) -> Result<Written, AllocError>
-        ensures { IfOk result (IsTooLate) }
+        ensures { IfOk result (IsTooLate date) }
     {
         let framing = Framing {
             is_last: true,

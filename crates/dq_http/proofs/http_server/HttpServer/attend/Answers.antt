@@ -7,7 +7,7 @@ loop-at-preserved-then-turn g c =
     let within : c.loop-at.at < length c.loop-at.self.connections.items = omega (arith, c.loop-at.self.connections.ok.0) in
     record {
       so = turns-kept c.loop-at.invariant.so within _ c.index_mut-connection.ensures.value _
-          (c.now.result, rw c.loop-at.invariant.state at c.if-turn.ensures);
+          (_, rw c.loop-at.invariant.state at c.if-turn.ensures);
       state = c.loop-at.invariant.state;
     }
 
