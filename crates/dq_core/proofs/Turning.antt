@@ -63,7 +63,7 @@ new-asks : (institutions : List Institution) (rows : List Row) (logs : List (Lis
     → ((owner : Option Institution) → StandsAt owner slot []) → slot.query ≡ None → Asks institutions rows logs slot (new_connection number)
 new-asks institutions rows logs slot number s q = record {
   begun = subst (λ (o : Option HeldQuery). IsBegunAt institutions logs slot.institution o) (sym q) tt;
-  query = λ i. query_at institutions rows logs ((s None).institution i) (q i);
+  query = λ i. query_at institutions rows logs ((s None).slot_institution i) (q i);
 }
 
 -- no octets add no input

@@ -16,7 +16,7 @@ use Rattle.dq_pdu.specs.declared.role.Ending.TheVariants.{ReleaseAsked, AbortSen
 use Rattle.dq_pdu.specs.declared.fault.PduFault.{PduFault}
 use Rattle.dq_pdu.specs.Numbers.{longest_body, pdv_header}
 use Rattle.dq_pdu.specs.Octets.{successive_parts}
-use Rattle.dq_pdu.specs.PduReader.{front, pdu_of, pdv_at, data_pdu_of, request_of, accept_of, body_length, is_unrecognized, whole_or_malformed}
+use Rattle.dq_pdu.specs.PduReader.{first_pdu, pdu_of, pdv_at, data_pdu_of, request_of, accept_of, body_length, is_unrecognized, whole_or_malformed}
 use Rattle.dq_pdu.specs.Stream.{Pdus, pdus_from, pdus_within, pdus_in}
 use Rattle.dq_pdu.specs.Roles.{role_of}
 use Rattle.dq_dimse.specs.declared.command.Command.{Command}
@@ -158,8 +158,8 @@ whole-small (Some pdu) count stream others s later = (s.it, later)
 
 front-small : (stream : List ℕ) (others : List ℕ → Pdus) → Small stream
     → ((count : ℕ) → AllByRecursion SmallPdu (others (drop count stream)).list)
-    → AllByRecursion SmallPdu (pdus_from (front stream) stream others).list
-unfolding front
+    → AllByRecursion SmallPdu (pdus_from (first_pdu stream) stream others).list
+unfolding first_pdu
 front-small stream others s later =
     let size = body_length stream in
     let behind = drop 6 stream in

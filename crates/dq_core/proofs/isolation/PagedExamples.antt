@@ -1,7 +1,7 @@
 -- The pages of a search on worked examples, octet for octet, by computation.
 use Rattle.std.specs.Prelude.{◌≡◌, true, [], ◌∷◌, ◌++◌, codes, refl}
 use Rattle.dq_pdu.specs.Stream.{pdus_within}
-use Rattle.dq_pdu.specs.PduReader.{front, pdu_of, associate_of, fields_of, request_of, item_at, pdv_at, proposed_of, user_information_of, data_pdu_of}
+use Rattle.dq_pdu.specs.PduReader.{first_pdu, pdu_of, associate_of, fields_of, request_of, item_at, pdv_at, proposed_of, user_information_of, data_pdu_of}
 use Rattle.dq_pdu.specs.Octets.{successive_parts}
 use Rattle.dq_vr.specs.Dictionary.{dictionary, vr_in, known_vr}
 use Rattle.dq_vr.specs.Tag.{is_below}
@@ -40,7 +40,7 @@ use Rattle.dq_core.specs.Examples.{ct1, find_accepted, find_status, find_level, 
 pub a_paged_search :
     replies (two 4) (studies_from 100 130) (search_then (Pull 1 ∷ Pull 1 ∷ Pull 1 ∷ [])) ≡ Done ∷ reply_with (find_accepted ct1)
     ∷ reply_with (found_from 100 64) ∷ reply_with (found_from 164 64) ∷ reply_with (found_from 228 2 ++ find_status 0) ∷ reply_with [] ∷ []
-unfolding pdus_within front pdu_of associate_of fields_of request_of item_at pdv_at proposed_of user_information_of data_pdu_of successive_parts institution_routed has_route joins class_of
+unfolding pdus_within first_pdu pdu_of associate_of fields_of request_of item_at pdv_at proposed_of user_information_of data_pdu_of successive_parts institution_routed has_route joins class_of
     without_spaces without_leading without_trailing kept_before messages_from command_from command_of data_set_read readers elements_by element_by elements_after value_by
     items_by item_by items_after front_at header_at end_at is_below tag_at spelling_at long_length_at content_of known_vr vr_in dictionary trimmed_value without_padding is_padded
     ignores_leading_spaces service_of_message reaction query_outcome message_query identifier_in level_named has_keys_above is_supported key_tags leaves answers_of_records records_asked records_of of
@@ -53,7 +53,7 @@ a_paged_search = refl
 pub a_cancelled_search :
     replies (two 4) (studies_from 100 65) (search_then (Piece 1 (cancel_request 2) ∷ Piece 1 (cancel_request 1) ∷ Pull 1 ∷ [])) ≡ Done ∷ reply_with (find_accepted ct1)
     ∷ reply_with (found_from 100 64) ∷ reply_with [] ∷ reply_with (find_status 0xfe00) ∷ reply_with [] ∷ []
-unfolding pdus_within front pdu_of associate_of fields_of request_of item_at pdv_at proposed_of user_information_of data_pdu_of successive_parts institution_routed has_route joins class_of
+unfolding pdus_within first_pdu pdu_of associate_of fields_of request_of item_at pdv_at proposed_of user_information_of data_pdu_of successive_parts institution_routed has_route joins class_of
     without_spaces without_leading without_trailing kept_before messages_from command_from command_of data_set_read readers elements_by element_by elements_after value_by
     items_by item_by items_after front_at header_at end_at is_below tag_at spelling_at long_length_at content_of known_vr vr_in dictionary trimmed_value without_padding is_padded
     ignores_leading_spaces service_of_message reaction query_outcome message_query identifier_in level_named has_keys_above is_supported key_tags leaves answers_of_records records_asked records_of of
@@ -66,7 +66,7 @@ a_cancelled_search = refl
 pub a_search_before_a_message :
     replies (two 4) (studies_from 100 65) (search_then (Piece 1 (find_level (codes "VISIT ")) ∷ Pull 1 ∷ [])) ≡ Done ∷ reply_with (find_accepted ct1)
     ∷ reply_with (found_from 100 64) ∷ reply_with (found_from 164 1 ++ find_status 0 ++ find_status 0xa900) ∷ reply_with [] ∷ []
-unfolding pdus_within front pdu_of associate_of fields_of request_of item_at pdv_at proposed_of user_information_of data_pdu_of successive_parts institution_routed has_route joins class_of
+unfolding pdus_within first_pdu pdu_of associate_of fields_of request_of item_at pdv_at proposed_of user_information_of data_pdu_of successive_parts institution_routed has_route joins class_of
     without_spaces without_leading without_trailing kept_before messages_from command_from command_of data_set_read readers elements_by element_by elements_after value_by
     items_by item_by items_after front_at header_at end_at is_below tag_at spelling_at long_length_at content_of known_vr vr_in dictionary trimmed_value without_padding is_padded
     ignores_leading_spaces service_of_message reaction query_outcome message_query identifier_in level_named has_keys_above is_supported key_tags leaves answers_of_records records_asked records_of of
@@ -80,7 +80,7 @@ pub a_search_before_an_echo :
     replies (two 4) (studies_from 100 130) (find_and_echo_then (Piece 1 (echo_on 3 2) ∷ Pull 1 ∷ Piece 1 release ∷ Pull 1 ∷ []))
     ≡ Done ∷ reply_with (find_and_echo_accepted ct1) ∷ reply_with (found_from 100 64)
     ∷ reply_with (found_from 164 66 ++ find_status 0 ++ echoed_on 3 2) ∷ reply_with [] ∷ Octets 1 release_response true ∷ Ignored ∷ []
-unfolding pdus_within front pdu_of associate_of fields_of request_of item_at pdv_at proposed_of user_information_of data_pdu_of successive_parts institution_routed has_route joins class_of
+unfolding pdus_within first_pdu pdu_of associate_of fields_of request_of item_at pdv_at proposed_of user_information_of data_pdu_of successive_parts institution_routed has_route joins class_of
     without_spaces without_leading without_trailing kept_before messages_from command_from command_of data_set_read readers elements_by element_by elements_after value_by
     items_by item_by items_after front_at header_at end_at is_below tag_at spelling_at long_length_at content_of known_vr vr_in dictionary trimmed_value without_padding is_padded
     ignores_leading_spaces service_of_message reaction query_outcome message_query identifier_in level_named has_keys_above is_supported key_tags leaves answers_of_records records_asked records_of of

@@ -1,7 +1,7 @@
 -- The definitions on worked examples: what the plain server replies to histories, octet for octet, by computation.
 use Rattle.std.specs.Prelude.{◌≡◌, ℕ, List, [], ◌∷◌, ◌++◌, codes, take, drop, true, false, refl}
 use Rattle.dq_pdu.specs.Stream.{pdus_within}
-use Rattle.dq_pdu.specs.PduReader.{front, pdu_of, associate_of, fields_of, request_of, item_at, pdv_at, proposed_of, user_information_of, data_pdu_of}
+use Rattle.dq_pdu.specs.PduReader.{first_pdu, pdu_of, associate_of, fields_of, request_of, item_at, pdv_at, proposed_of, user_information_of, data_pdu_of}
 use Rattle.dq_pdu.specs.Octets.{successive_parts}
 use Rattle.dq_vr.specs.Dictionary.{dictionary, vr_in, known_vr}
 use Rattle.dq_vr.specs.Tag.{is_below}
@@ -87,7 +87,7 @@ closed octets = Octets 1 octets true
 an_association :
     (replies built_in [] (history (associate_request modality_title ∷ echo ∷ release ∷ [])) ≡ Done ∷ reply_with (acceptance_pdu modality_title) ∷ reply_with echo_response ∷ closed released ∷ [])
     × (replies built_in [] (history ((associate_request modality_title ++ echo ++ release) ∷ [])) ≡ Done ∷ closed (acceptance_pdu modality_title ++ echo_response ++ released) ∷ [])
-unfolding pdus_within front pdu_of associate_of fields_of request_of item_at pdv_at proposed_of user_information_of data_pdu_of successive_parts institution_routed has_route joins built_in class_of
+unfolding pdus_within first_pdu pdu_of associate_of fields_of request_of item_at pdv_at proposed_of user_information_of data_pdu_of successive_parts institution_routed has_route joins built_in class_of
     without_spaces without_leading without_trailing kept_before messages_from command_from command_of data_set_read readers elements_by element_by elements_after value_by
     items_by item_by items_after front_at header_at end_at is_below tag_at spelling_at long_length_at content_of known_vr vr_in dictionary trimmed_value without_padding is_padded
     ignores_leading_spaces service_of_message reaction
@@ -99,7 +99,7 @@ command_sets :
     × (replies built_in [] (history (associate_request modality_title ∷ echo_of_two_groups ∷ [])) ≡ Done ∷ reply_with (acceptance_pdu modality_title) ∷ closed (short 7 0 2 6) ∷ [])
     × (replies built_in [] (history (request_from 1 modality_title 1 8 ∷ echo ∷ [])) ≡ Done ∷ reply_with (acceptance_pdu modality_title) ∷ reply_with
     (in_twos (response_set 66 verification 0x8030 0x0101 0x0000)) ∷ [])
-unfolding pdus_within front pdu_of associate_of fields_of request_of item_at pdv_at proposed_of user_information_of data_pdu_of successive_parts institution_routed has_route joins built_in class_of
+unfolding pdus_within first_pdu pdu_of associate_of fields_of request_of item_at pdv_at proposed_of user_information_of data_pdu_of successive_parts institution_routed has_route joins built_in class_of
     without_spaces without_leading without_trailing kept_before messages_from command_from command_of data_set_read readers elements_by element_by elements_after value_by
     items_by item_by items_after front_at header_at end_at is_below tag_at spelling_at long_length_at content_of known_vr vr_in dictionary trimmed_value without_padding is_padded
     ignores_leading_spaces service_of_message reaction
@@ -112,7 +112,7 @@ statuses :
     × (replies built_in [] (history (associate_request modality_title ∷ command 0x0020 verification_class ∷ command 0x0020
     (codes "1.2.840.10008.1.20") ∷ [])) ≡ Done ∷ reply_with (acceptance_pdu modality_title) ∷ reply_with (example_response 0x8020 0x0211) ∷ reply_with (example_response 0x8020 0x0211) ∷ [])
     × (replies built_in [] (history (associate_request modality_title ∷ cancel ∷ echo ∷ [])) ≡ Done ∷ reply_with (acceptance_pdu modality_title) ∷ reply_with [] ∷ reply_with echo_response ∷ [])
-unfolding pdus_within front pdu_of associate_of fields_of request_of item_at pdv_at proposed_of user_information_of data_pdu_of successive_parts institution_routed has_route joins built_in class_of
+unfolding pdus_within first_pdu pdu_of associate_of fields_of request_of item_at pdv_at proposed_of user_information_of data_pdu_of successive_parts institution_routed has_route joins built_in class_of
     without_spaces without_leading without_trailing kept_before messages_from command_from command_of data_set_read readers elements_by element_by elements_after value_by
     items_by item_by items_after front_at header_at end_at is_below tag_at spelling_at long_length_at content_of known_vr vr_in dictionary trimmed_value without_padding is_padded
     ignores_leading_spaces service_of_message reaction
@@ -125,13 +125,13 @@ rejections :
     × (replies built_in [] (history (request_from 2 ct9 1 7 ∷ [])) ≡ Done ∷ closed (short 3 1 2 2) ∷ [])
     × (replies built_in [] (history (request_from 1 modality_title 1 7 ∷ [])) ≡ Done ∷ closed (short 3 1 1 1) ∷ [])
     × (replies built_in [] (history (request_from 1 modality_title 2 16384 ∷ [])) ≡ Done ∷ closed (short 7 0 0 0) ∷ [])
-unfolding pdus_within front pdu_of associate_of fields_of request_of item_at pdv_at proposed_of user_information_of data_pdu_of successive_parts institution_routed has_route joins built_in class_of
+unfolding pdus_within first_pdu pdu_of associate_of fields_of request_of item_at pdv_at proposed_of user_information_of data_pdu_of successive_parts institution_routed has_route joins built_in class_of
     without_spaces without_leading without_trailing kept_before messages_from
 rejections = (refl, refl, refl, refl, refl)
 
 -- Explicit before Implicit; result 4 where no syntax is taken, and 3 where the class is not served
 contexts : replies built_in [] (history (four_contexts ∷ [])) ≡ Done ∷ reply_with four_results ∷ []
-unfolding pdus_within front pdu_of associate_of fields_of request_of item_at pdv_at proposed_of user_information_of data_pdu_of successive_parts institution_routed has_route joins built_in class_of
+unfolding pdus_within first_pdu pdu_of associate_of fields_of request_of item_at pdv_at proposed_of user_information_of data_pdu_of successive_parts institution_routed has_route joins built_in class_of
     without_spaces without_leading without_trailing kept_before messages_from
 contexts = refl
 
@@ -141,7 +141,7 @@ in_place_of_a_request :
     × (replies built_in [] (history (release ∷ [])) ≡ Done ∷ closed (short 7 0 0 0) ∷ [])
     × (replies built_in [] (history ((8 ∷ 0 ∷ 0 ∷ 0 ∷ 0 ∷ 0 ∷ []) ∷ (0 ∷ []) ∷ [])) ≡ Done ∷ closed (short 7 0 0 0) ∷ Ignored ∷ [])
     × (replies built_in [] (history (short 7 0 0 0 ∷ echo ∷ [])) ≡ Done ∷ closed [] ∷ Ignored ∷ [])
-unfolding pdus_within front pdu_of associate_of fields_of request_of item_at pdv_at proposed_of user_information_of data_pdu_of successive_parts institution_routed has_route joins built_in class_of
+unfolding pdus_within first_pdu pdu_of associate_of fields_of request_of item_at pdv_at proposed_of user_information_of data_pdu_of successive_parts institution_routed has_route joins built_in class_of
     without_spaces without_leading without_trailing kept_before messages_from
 in_place_of_a_request = (refl, refl, refl, refl)
 
@@ -152,7 +152,7 @@ after_a_request :
     × (replies built_in [] (history (associate_request modality_title ∷ value_pdu 6 3 3 [] ∷ [])) ≡ Done ∷ reply_with (acceptance_pdu modality_title) ∷ closed (short 7 0 2 6) ∷ [])
     × (replies built_in [] (history (associate_request modality_title ∷ (4 ∷ 0 ∷ 0 ∷ 0 ∷ 0 ∷ 0 ∷ []) ∷ [])) ≡ Done ∷ reply_with (acceptance_pdu modality_title) ∷ closed (short 7 0 2 6) ∷ [])
     × (replies built_in [] (history (associate_request modality_title ∷ short 7 0 0 0 ∷ [])) ≡ Done ∷ reply_with (acceptance_pdu modality_title) ∷ closed [] ∷ [])
-unfolding pdus_within front pdu_of associate_of fields_of request_of item_at pdv_at proposed_of user_information_of data_pdu_of successive_parts institution_routed has_route joins built_in class_of
+unfolding pdus_within first_pdu pdu_of associate_of fields_of request_of item_at pdv_at proposed_of user_information_of data_pdu_of successive_parts institution_routed has_route joins built_in class_of
     without_spaces without_leading without_trailing kept_before messages_from
 after_a_request = (refl, refl, refl, refl, refl)
 
@@ -161,7 +161,7 @@ in_mid_message :
     (replies built_in [] (history (associate_request modality_title ∷ (value_pdu 24 20 1 (example_element 0x0000 4
     (56 ∷ 0 ∷ 0 ∷ 0 ∷ []) ++ 0 ∷ 0 ∷ 2 ∷ 0 ∷ 18 ∷ 0 ∷ []) ++ release) ∷ [])) ≡ Done ∷ reply_with (acceptance_pdu modality_title) ∷ closed released ∷ [])
     × (replies built_in [] (history (associate_request modality_title ∷ (echo ++ 8 ∷ 0 ∷ 0 ∷ 0 ∷ 0 ∷ 0 ∷ []) ∷ [])) ≡ Done ∷ reply_with (acceptance_pdu modality_title) ∷ closed (echo_response ++ short 7 0 2 1) ∷ [])
-unfolding pdus_within front pdu_of associate_of fields_of request_of item_at pdv_at proposed_of user_information_of data_pdu_of successive_parts institution_routed has_route joins built_in class_of
+unfolding pdus_within first_pdu pdu_of associate_of fields_of request_of item_at pdv_at proposed_of user_information_of data_pdu_of successive_parts institution_routed has_route joins built_in class_of
     without_spaces without_leading without_trailing kept_before messages_from command_from command_of data_set_read readers elements_by element_by elements_after value_by
     items_by item_by items_after front_at header_at end_at is_below tag_at spelling_at long_length_at content_of known_vr vr_in dictionary trimmed_value without_padding is_padded
     ignores_leading_spaces service_of_message reaction
@@ -171,7 +171,7 @@ in_mid_message = (refl, refl)
 two_institutions : replies (two 4) [] (Open 1 ∷ Open 2 ∷ Piece 2 (associate_request ct2) ∷ Piece 1 (associate_request ct1) ∷ Piece 2 echo ∷ Piece 1 echo ∷
     Piece 1 release ∷ End 1 ∷ End 2 ∷ End 2 ∷ Piece 2 echo ∷ End 9 ∷ []) ≡ Done ∷ Done ∷ Octets 2 (acceptance_pdu ct2) false ∷ Octets 1 (acceptance_pdu ct1)
     false ∷ Octets 2 echo_response false ∷ Octets 1 echo_response false ∷ Octets 1 released true ∷ Ignored ∷ Done ∷ Ignored ∷ Ignored ∷ Ignored ∷ []
-unfolding pdus_within front pdu_of associate_of fields_of request_of item_at pdv_at proposed_of user_information_of data_pdu_of successive_parts institution_routed has_route joins built_in class_of
+unfolding pdus_within first_pdu pdu_of associate_of fields_of request_of item_at pdv_at proposed_of user_information_of data_pdu_of successive_parts institution_routed has_route joins built_in class_of
     without_spaces without_leading without_trailing kept_before messages_from command_from command_of data_set_read readers elements_by element_by elements_after value_by
     items_by item_by items_after front_at header_at end_at is_below tag_at spelling_at long_length_at content_of known_vr vr_in dictionary trimmed_value without_padding is_padded
     ignores_leading_spaces service_of_message reaction
@@ -182,14 +182,14 @@ one_at_a_time : replies (two 1) [] (Open 1 ∷ Open 2 ∷ Open 3 ∷ Piece 1 (as
     ct2) ∷ Piece 1 release ∷ Open 4 ∷ Piece 4 (associate_request ct1) ∷ End 4 ∷ Open 5 ∷ Piece 5 (associate_request ct1) ∷ []) ≡ Done ∷ Done ∷ Done ∷ Octets 1
     (acceptance_pdu ct1) false ∷ Octets 2 (short 3 2 3 2) true ∷ Octets 3 (acceptance_pdu ct2) false ∷ Octets 1 released true ∷ Done ∷ Octets 4
     (acceptance_pdu ct1) false ∷ Done ∷ Done ∷ Octets 5 (acceptance_pdu ct1) false ∷ []
-unfolding pdus_within front pdu_of associate_of fields_of request_of item_at pdv_at proposed_of user_information_of data_pdu_of successive_parts institution_routed has_route joins built_in class_of
+unfolding pdus_within first_pdu pdu_of associate_of fields_of request_of item_at pdv_at proposed_of user_information_of data_pdu_of successive_parts institution_routed has_route joins built_in class_of
     without_spaces without_leading without_trailing kept_before messages_from
 one_at_a_time = refl
 
 -- of a request that does not pass the checks nobody asks whether it is busy
 a_busy_request : replies (two 1) [] (Open 1 ∷ Open 2 ∷ Piece 1 (associate_request ct1) ∷ Piece 2 (request_from 2 ct1 1 16384) ∷ []) ≡ Done ∷ Done ∷ Octets 1
     (acceptance_pdu ct1) false ∷ Octets 2 (short 3 1 2 2) true ∷ []
-unfolding pdus_within front pdu_of associate_of fields_of request_of item_at pdv_at proposed_of user_information_of data_pdu_of successive_parts institution_routed has_route joins built_in class_of
+unfolding pdus_within first_pdu pdu_of associate_of fields_of request_of item_at pdv_at proposed_of user_information_of data_pdu_of successive_parts institution_routed has_route joins built_in class_of
     without_spaces without_leading without_trailing kept_before messages_from
 a_busy_request = refl
 
@@ -199,13 +199,13 @@ own_events :
     (associate_request ct1) ∷ Schedule south [] ∷ Withdraw north [] ∷ []) ≡ Open 3 ∷ Piece 3 (associate_request ct1) ∷ Withdraw north [] ∷ [])
     × (own (two 4) north (Piece 1 [] ∷ Open 1 ∷ Piece 1 (take 20 (associate_request ct1)) ∷ Piece 1 (drop 20
     (associate_request ct1)) ∷ []) ≡ Piece 1 [] ∷ Open 1 ∷ Piece 1 (take 20 (associate_request ct1)) ∷ Piece 1 (drop 20 (associate_request ct1)) ∷ [])
-unfolding pdus_within front pdu_of associate_of fields_of request_of item_at pdv_at proposed_of user_information_of data_pdu_of successive_parts institution_routed has_route joins built_in class_of
+unfolding pdus_within first_pdu pdu_of associate_of fields_of request_of item_at pdv_at proposed_of user_information_of data_pdu_of successive_parts institution_routed has_route joins built_in class_of
     without_spaces without_leading without_trailing kept_before messages_from
 own_events = (refl, refl)
 
 -- an order for an institution that is not configured
 orders : replies (two 4) [] (Schedule (codes "EAST") [] ∷ Withdraw (codes "EAST") [] ∷ []) ≡ Refused 6 ∷ Refused 6 ∷ []
-unfolding pdus_within front pdu_of associate_of fields_of request_of item_at pdv_at proposed_of user_information_of data_pdu_of successive_parts institution_routed has_route joins built_in class_of
+unfolding pdus_within first_pdu pdu_of associate_of fields_of request_of item_at pdv_at proposed_of user_information_of data_pdu_of successive_parts institution_routed has_route joins built_in class_of
     without_spaces without_leading without_trailing kept_before messages_from institution_named
 orders = refl
 
@@ -217,7 +217,7 @@ abbrev not_understood : List ℕ
 not_understood = find_status 0xc000
 
 a_query : replies built_in [] (history (four_contexts ∷ find ∷ [])) ≡ Done ∷ reply_with four_results ∷ reply_with not_understood ∷ []
-unfolding pdus_within front pdu_of associate_of fields_of request_of item_at pdv_at proposed_of user_information_of data_pdu_of successive_parts institution_routed has_route joins built_in class_of
+unfolding pdus_within first_pdu pdu_of associate_of fields_of request_of item_at pdv_at proposed_of user_information_of data_pdu_of successive_parts institution_routed has_route joins built_in class_of
     without_spaces without_leading without_trailing kept_before messages_from command_from command_of data_set_read readers elements_by element_by elements_after value_by
     items_by item_by items_after front_at header_at end_at is_below tag_at spelling_at long_length_at content_of known_vr vr_in dictionary trimmed_value without_padding is_padded
     ignores_leading_spaces service_of_message reaction query_outcome message_query identifier_in
@@ -234,7 +234,7 @@ pub a_query_over_no_rows :
     (replies built_in [] (history (four_contexts ∷ find_studies ∷ [])) ≡ Done ∷ reply_with four_results ∷ reply_with (find_status 0) ∷ [])
     × (replies built_in [] (history (four_contexts ∷ find_level (codes "VISIT ") ∷ [])) ≡ Done ∷ reply_with four_results ∷ reply_with
     (find_status 0xa900) ∷ [])
-unfolding pdus_within front pdu_of associate_of fields_of request_of item_at pdv_at proposed_of user_information_of data_pdu_of successive_parts institution_routed has_route joins built_in class_of
+unfolding pdus_within first_pdu pdu_of associate_of fields_of request_of item_at pdv_at proposed_of user_information_of data_pdu_of successive_parts institution_routed has_route joins built_in class_of
     without_spaces without_leading without_trailing kept_before messages_from command_from command_of data_set_read readers elements_by element_by elements_after value_by
     items_by item_by items_after front_at header_at end_at is_below tag_at spelling_at long_length_at content_of known_vr vr_in dictionary trimmed_value without_padding is_padded
     ignores_leading_spaces service_of_message reaction query_outcome message_query identifier_in level_named has_keys_above is_supported key_tags leaves answers_of_records records_asked records_of of
@@ -246,7 +246,7 @@ a_query_over_no_rows = (refl, refl)
 pub stores :
     (replies built_in [] (history (four_contexts ∷ store_on 3 ∷ [])) ≡ Done ∷ reply_with four_results ∷ reply_with (store_status 3 0xa900) ∷ [])
     × (replies built_in [] (history (associate_request modality_title ∷ store_on 1 ∷ [])) ≡ Done ∷ reply_with (acceptance_pdu modality_title) ∷ reply_with (example_response 0x8001 0x0211) ∷ [])
-unfolding pdus_within front pdu_of associate_of fields_of request_of item_at pdv_at proposed_of user_information_of data_pdu_of successive_parts institution_routed has_route joins built_in class_of
+unfolding pdus_within first_pdu pdu_of associate_of fields_of request_of item_at pdv_at proposed_of user_information_of data_pdu_of successive_parts institution_routed has_route joins built_in class_of
     without_spaces without_leading without_trailing kept_before messages_from command_from command_of data_set_read readers elements_by element_by elements_after value_by
     items_by item_by items_after front_at header_at end_at is_below tag_at spelling_at long_length_at content_of known_vr vr_in dictionary trimmed_value without_padding is_padded
     ignores_leading_spaces service_of_message reaction store_outcome is_over_limit names_instance uid_at sole_at
@@ -257,7 +257,7 @@ pub a_kept_study :
     (replies (two 4) (kept_study ∷ []) (history (find_request ct1 ∷ find_uids ∷ [])) ≡ Done ∷ reply_with (find_accepted ct1) ∷ reply_with
     (found_study ++ find_status 0) ∷ [])
     × (replies (two 4) (kept_study ∷ []) (history (find_request ct2 ∷ find_uids ∷ [])) ≡ Done ∷ reply_with (find_accepted ct2) ∷ reply_with (find_status 0) ∷ [])
-unfolding pdus_within front pdu_of associate_of fields_of request_of item_at pdv_at proposed_of user_information_of data_pdu_of successive_parts institution_routed has_route joins built_in class_of
+unfolding pdus_within first_pdu pdu_of associate_of fields_of request_of item_at pdv_at proposed_of user_information_of data_pdu_of successive_parts institution_routed has_route joins built_in class_of
     without_spaces without_leading without_trailing kept_before messages_from command_from command_of data_set_read readers elements_by element_by elements_after value_by
     items_by item_by items_after front_at header_at end_at is_below tag_at spelling_at long_length_at content_of known_vr vr_in dictionary trimmed_value without_padding is_padded
     ignores_leading_spaces service_of_message reaction query_outcome message_query identifier_in level_named has_keys_above is_supported key_tags leaves answers_of_records records_asked records_of of
