@@ -31,7 +31,7 @@ telling_lines lines = filter (λ line. not (is_skipped line)) lines
 abbrev pub IsNumber : List ℕ → ℕ → Type 0
 IsNumber text number = (number < 2 ^ 64) × (text ≡ decimal number)
 
--- What is found is so; or nothing is found, and nothing is so.
+-- A value that is found is so; or nothing is found, and nothing is so.
 module _ {T : Type 0} where
   abbrev pub Finds : (T → Type 0) → Option T → Type 0
   Finds IsSo found = MatchOption found ((x : T) → IsSo x → ⊥) IsSo

@@ -1,4 +1,4 @@
--- What is known of what was written.
+-- The octets that are known to have been written.
 use Rattle.std.specs.Prelude.{ℕ, List, take, Option}
 use Rattle.std.specs.Io.KnownBytes.{Appends}
 

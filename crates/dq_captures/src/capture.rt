@@ -23,7 +23,7 @@ pub enum CaptureFault {
     NoMemory,
 }
 
-/// What stands after a word at the front of a line.
+/// Returns the rest of a line after a word at its front.
 fn behind<'a>(line: &'a str, word: &str) -> Option<&'a str>
     ensures { MatchOption result ((rest : List ℕ) → line.now ≡ word.now ++ rest → ⊥)
         (λ rest. line.now ≡ word.now ++ rest.now) }
@@ -202,13 +202,13 @@ pub fn read_capture(alloc: Global, text: &str) -> Result<Vec<Event>, CaptureFaul
     // Lines that tell events are read, unless memory runs out.
     ensures only { (events : List Event) → AreCapture (lines_of text.now) events →
         MatchResult result (λ read. read.items ≡ events) (λ fault. fault ≡ CaptureFault.NoMemory) }
-    // What the events bring are octets, numbers below 256.
+    // The events bring octets, numbers below 256.
     ensures octets { IfOk result (λ events. BringOctets events.items) }
 {
     read_lines(alloc, text)
 }
 
-/// What the events of a capture bring are octets, numbers below 256.
+/// The events of a capture bring octets, numbers below 256.
 pub fn captures_bring_octets()
     ensures { (lines : List (List ℕ)) (events : List Event) →
         AreCapture lines events → BringOctets events }

@@ -1,4 +1,4 @@
-//! What the program reads and writes.
+//! The inputs and outputs of the program.
 ghost use Rattle.std.specs.Prelude.{◌≡◌, ◌≤◌, ℕ, List, Option, IfOk, IfSome, OnOk, OnErr, IsErrOf, length, take};
 ghost use Rattle.std.specs.Fmt.{with_newline};
 ghost use Rattle.std.specs.Io.KnownBytes.{Keeps, Appends, WriteAppends};
@@ -17,7 +17,7 @@ pub enum Unread {
     NoMemory,
 }
 
-/// What is read to its end.
+/// A source that is read to its end.
 pub trait Source: Drop {
     /// The octets that it gives, where they are known.
     ghost octets: { Self → Option (List ℕ) };
@@ -32,7 +32,7 @@ pub trait Source: Drop {
         ensures failed { IsErrOf result Unread.Failed → may_fail self };
 }
 
-/// What is written to.
+/// A sink that is written to.
 pub trait Sink {
     /// The octets that were written, where they are known.
     ghost written: { Self → Option (List ℕ) };
@@ -63,7 +63,7 @@ pub trait Sink {
         ensures failed { OnErr result (may_fail self.old) };
 }
 
-/// What has files.
+/// A folder that has files.
 pub trait Folder {
     /// The octets of the file at a path, where they are known.
     ghost held: { Self → List ℕ → Option (List ℕ) };
@@ -157,7 +157,7 @@ impl<W: Write> Sink for W {
     }
 }
 
-/// What runs on a machine: its files and sockets are those of the machine's runtime.
+/// A host that runs on a machine: its files and sockets are those of the machine's runtime.
 pub trait Host {
     fn runtime(&self) -> &HostRuntime;
 }

@@ -1,5 +1,5 @@
-//! What holds of institutions that meet the conditions on a configuration. Each function's contract
-//! is a law; its body does nothing.
+//! Laws that hold of institutions that meet the conditions on a configuration. Each function's
+//! contract is a law; its body does nothing.
 
 ghost use Rattle.std.specs.Prelude.{◌≡◌, ◌≢◌, ℕ, List, Some, None, IsTrue, Contains, AllPairs, false};
 ghost use Rattle.dq_value.specs.Title.{without_spaces};

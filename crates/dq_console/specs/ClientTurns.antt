@@ -33,7 +33,7 @@ TakesLine old new None = HasNone old.came × (new ≡ old)
 TakesLine old new (Some line) =
     HasLine old.came × (line ≡ first_line old.came) × (new ≡ without_line old)
 
--- What is not written was offered: the client is still there, or the write failed.
+-- The octets that are not written were offered: the client is still there, or the write failed.
 abbrev pub Writes : Option (List Call) → Option (List Call) → HeldClient → HeldClient → Bool → Type 0
 Writes before after old new there = (taken : Result ℕ WireFault)
     × Logs before after (Write old.place old.unsent taken)

@@ -1,4 +1,4 @@
--- What is done for those who call the console, told by the calls of its wires, and for the web front.
+-- The work done for those who call the console, told by the calls of its wires, and for the web front.
 use Rattle.std.specs.Prelude.{◌≡◌, ◌≢◌, ◌⊎◌, ◌<◌, ◌≤◌, ◌+◌, ◌^◌, ◌==◌, ℕ, Bool, true, false, nat_lt, if◌then◌else◌, List, [], ◌∷◌, ◌++◌, length, take, drop, map, Option, Some, None, Result, Ok, Err}
 use Rattle.std.specs.List.{flat_map, position_or_len}
 use Rattle.dq_config.specs.declared.config.Institution.{Institution}
@@ -73,7 +73,7 @@ other_lines octets = drop (first_line_length octets + 1) octets
 
 -- ---- answers
 
--- What was done for a request: what was asked, what is answered, and the orders that were stepped.
+-- The handling of a request: what was asked, what is answered, and the orders that were stepped.
 pub record Answering : Type 0 where
   pub asked : Request
   pub answer : Response
@@ -97,8 +97,8 @@ IsAnswer other answer acts = acts ≡ []
 abbrev pub IsAnswering : Answering → Type 0
 IsAnswering it = IsAnswer it.asked it.answer it.acts
 
--- What an answer tells of the rows that are there: a search tells what the institution that it names is shown of
--- them, and counts are of them.
+-- An answer tells of the rows that are there: a search tells what the institution that it names is shown of them, and
+-- counts are of them.
 abbrev pub TellsOf : List Institution → List (List ℕ) → List Row → Request → Response → Type 0
 TellsOf institutions names rows (request.Search search) answer =
     answer ≡ search_response institutions rows search
@@ -106,7 +106,7 @@ TellsOf institutions names rows (request.Counts name) answer = answer ≡ counts
 TellsOf institutions names rows request.Report answer = answer ≡ report_response names rows
 TellsOf institutions names rows other answer = Unit {0}
 
--- What was done at a line: what it asks was answered, a word of it was refused, or it tells nothing.
+-- The outcome of a line: what it asks was answered, a word of it was refused, or it tells nothing.
 pub data LineAnswer : Type 0 where
   Obeyed : Answering → LineAnswer
   Refused : List ℕ → LineAnswer
@@ -133,7 +133,7 @@ is_unread (Obeyed it) = false
 is_unread (Refused word) = false
 is_unread Unread = true
 
--- What is told at a line is of the rows that are there.
+-- The answer to a line is of the rows that are there.
 abbrev pub TellsRows : List Institution → List (List ℕ) → List Row → LineAnswer → Type 0
 TellsRows institutions names rows (Obeyed it) = TellsOf institutions names rows it.asked it.answer
 TellsRows institutions names rows (Refused word) = Unit {0}
@@ -146,7 +146,7 @@ rows_after institutions rows acts =
 
 -- ---- the turn of a client
 
--- What is done for a client in its turn.
+-- The action taken for a client in its turn.
 pub data ClientTurn : Type 0 where
   -- what was not written of its answer was offered
   Offered : Result ℕ WireFault → ClientTurn
@@ -265,7 +265,7 @@ abbrev pub AreVisits : List Visit → Type 0
 AreVisits [] = Unit {0}
 AreVisits (visit ∷ visits) = IsVisit visit × AreVisits visits
 
--- What is told to a client is of the rows after these acts.
+-- A client is told of the rows after these acts.
 abbrev pub ClientTurnTells : List Institution → List (List ℕ) → List Row → List Act → HeldClient → ClientTurn
     → Type 0
 ClientTurnTells institutions names rows done client (Offered taken) = Unit {0}

@@ -110,7 +110,7 @@ SpellsOrder line (Asked other) = ⊥
 SpellsOrder line (Misspelled word) = ⊥
 SpellsOrder line Bad = (order : Event) → SpellsEvent line order → IsOrder order → ⊥
 
--- What a line tells: what is asked; a search with a word that is none; or none of these.
+-- The meaning of a line: what is asked; a search with a word that is none; or none of these.
 abbrev pub TellsLine : List ℕ → ConsoleLine → Type 0
 TellsLine line (Asked asked) = SpellsRequest line asked
 TellsLine line (Misspelled word) = IsMisspelled line (string_bytes word)

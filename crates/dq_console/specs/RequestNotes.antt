@@ -1,4 +1,4 @@
--- What the log is told of what the console and the web front were asked.
+-- The log's notes of what the console and the web front were asked.
 use Rattle.std.specs.Prelude.{◌≡◌, ℕ, Bool, true, false, List, [], ◌++◌, codes, Option, Some, None}
 use Rattle.std.specs.Str.{IsUtf8}
 use Rattle.dq_request.specs.declared.request.Request.{Request}
@@ -21,8 +21,8 @@ abbrev pub NotesName : List ℕ → List ℕ → Option (List ℕ) → Type 0
 NotesName word octets note = (name : List ℕ) × IsNameNoted octets name
     × (note ≡ Some (word ++ name ++ codes " "))
 
--- What a note says of a request before its answer: of an order its word and its institution, and of a copy that it
--- is one. Of others there is none.
+-- The note of a request before its answer: of an order its word and its institution, and of a copy that it is one. Of
+-- others there is none.
 abbrev pub NotesRequest : Request → Option (List ℕ) → Type 0
 NotesRequest (Schedule institution octets) note = NotesName (codes "schedule ") institution note
 NotesRequest (Withdraw institution id) note = NotesName (codes "withdraw ") institution note

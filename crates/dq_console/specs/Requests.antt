@@ -1,4 +1,4 @@
--- What is answered to a request, over the rows that are there.
+-- The answer to a request, over the rows that are there.
 use Rattle.std.specs.Prelude.{◌≡◌, ◌⊎◌, ◌==◌, ℕ, Bool, true, false, if◌then◌else◌, List, [], ◌∷◌, length, map, Option, Some, None, Result, Ok, Err, OnOk}
 use Rattle.std.specs.List.{list_any}
 use Rattle.std.specs.Str.{bytes_eq}
@@ -61,8 +61,8 @@ abbrev pub is_steps : Subject → Bool
 is_steps Steps = true
 is_steps subject = false
 
--- What is answered to a search over rows: a page of the procedure steps of the institution that it names, or of
--- what its keys find there, as in a C-FIND (PS3.4 sections C.4.1 and K.4.1).
+-- The answer to a search over rows: a page of the procedure steps of the institution that it names, or of what its keys
+-- find there, as in a C-FIND (PS3.4 sections C.4.1 and K.4.1).
 abbrev pub search_response : List Institution → List Row → Search → Response
 search_response institutions rows search =
     if is_steps search.subject
@@ -105,8 +105,8 @@ order_in (request.Schedule institution octets) = Some (event.Schedule institutio
 order_in (request.Withdraw institution id) = Some (event.Withdraw institution id)
 order_in other = None
 
--- What is answered to an order: that it is done, or its refusal. No order has another reply, which would be no
--- refusal's number.
+-- The answer to an order: that it is done, or its refusal. No order has another reply, which would be no refusal's
+-- number.
 abbrev pub order_response : Reply → Response
 order_response reply.Done = response.Done
 order_response (reply.Refused number) = response.Refused (cause.Order number)
@@ -140,7 +140,7 @@ pub record BacksUp {Tables : Type 0} (state : Tables → State) (copied : List R
   pub answer_is : answer ≡ backup_response made
   pub is_copied : (state new.tables).honest → OnOk made (copied (state old.tables).rows)
 
--- What is answered to a request, by a server of institutions with these names.
+-- The answer to a request, by a server of institutions with these names.
 module _ {Tables : Type 0} (state : Tables → State) (copied : List Row → Type 0)
     (names : List (List ℕ)) where
   abbrev pub Answered : ServerView Tables → ServerView Tables → Request → Response → Type 0
@@ -155,7 +155,7 @@ module _ {Tables : Type 0} (state : Tables → State) (copied : List Row → Typ
       Orders state old new (event.Withdraw institution id) answer
   Answered old new (request.Backup path) answer = BacksUp state copied old new answer
 
--- What a fault leaves of a server: it is as it was, or it failed at an event or at a look.
+-- The state in which a fault leaves a server: it is as it was, or it failed at an event or at a look.
 module _ {Tables : Type 0} (state : Tables → State) where
   abbrev pub IsLeft : ServerView Tables → ServerView Tables → Type 0
   IsLeft old new = (new ≡ old) ⊎ ((event : Event) × (why : Fault) × Fails state old new event why)

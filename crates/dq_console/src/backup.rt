@@ -10,7 +10,7 @@ use std::alloc::Global;
 
 /// A maker of copies of all rows of tables.
 pub trait Backups<T: Tables> {
-    /// What there is once these rows are copied.
+    /// The result of copying these rows.
     ghost copied: { Self → List Row → Type 0 };
 
     /// Copies all rows into a new file at a path. The tables stay as they are.

@@ -38,8 +38,8 @@ fn noted_name(octets: &[u8]) -> &str
     }
 }
 
-/// What a note says of a request before its answer: an order's word and institution, or that of a copy.
-/// There is no note of counts, nor of a search. An entry is not told, nor whose it is.
+/// Returns the note of a request before its answer: an order's word and institution, or the word of
+/// a copy. There is no note of counts, nor of a search. An entry is not told, nor whose it is.
 fn request_note(alloc: Global, request: &Request) -> Result<Option<String>, AllocError>
     ensures { IfOk result (λ note. NotesRequest request.now (option_map string_bytes note)) }
 {
@@ -57,7 +57,7 @@ fn request_note(alloc: Global, request: &Request) -> Result<Option<String>, Allo
     }
 }
 
-/// What a note says of a line before its answer.
+/// Returns the note of a line before its answer.
 fn line_note(alloc: Global, line: &ConsoleLine) -> Result<Option<String>, AllocError>
     ensures { IfOk result (λ note. NotesLine line.now (option_map string_bytes note)) }
 {
@@ -68,7 +68,7 @@ fn line_note(alloc: Global, line: &ConsoleLine) -> Result<Option<String>, AllocE
     }
 }
 
-/// What is answered to a line, once what it asks is done.
+/// Returns the answer to a line, once what it asks is done.
 fn answer_to<T: Tables, B: Backups<T>>(
     alloc: Global,
     turner: &mut Turner<T>,

@@ -12,7 +12,7 @@ use std::mem;
 /// before them.
 const LINE_MOST: usize = 2_097_152 + 256;
 
-/// What comes next of a client: a line, nothing yet, or that it is gone.
+/// The next thing from a client: a line, nothing yet, or that it is gone.
 #[derive(Drop)]
 pub enum Next {
     Line(Vec<u8>),
@@ -161,8 +161,8 @@ impl ConsoleClient {
         }
     }
 
-    /// What comes next: what is not written of an answer goes first, then a line is taken, and else
-    /// is read. A client for whom there is no memory is let go.
+    /// Returns what comes next: the unwritten rest of an answer goes first, then a line is taken,
+    /// and otherwise the client is read. A client for whom there is no memory is disconnected.
     pub fn next<W: Wires>(&mut self, wires: &mut W, buffer: &mut [u8]) -> Next
         ensures { ComesNext (W.log wires.old) (W.log wires.new) self.old self.new result }
     {

@@ -19,10 +19,10 @@ use std::alloc::{AllocError, Global};
 /// The most that is shown of a search at a time, where no limit is given.
 const PAGE_MOST: usize = 1000;
 
-/// What is answered to a line that tells nothing.
+/// The answer to a line that tells nothing.
 pub const BAD_LINE: &str = "bad line\n";
 
-/// What a line of the console tells.
+/// The meaning of a line of the console.
 #[derive(Drop)]
 pub enum ConsoleLine {
     Asked(Request),
@@ -44,7 +44,7 @@ fn subject_word(subject: Subject) -> &'static str
     }
 }
 
-/// What stands behind the word of a search, where the line begins with it.
+/// Returns the rest of a line after the word of a search, if the line begins with it.
 fn behind(subject: Subject, line: &str) -> Option<&str>
     ensures { MatchOption result ((rest : List ℕ) → line.now ≡ subject_word subject ++ rest → ⊥)
         (λ rest. line.now ≡ subject_word subject ++ rest.now) }
@@ -52,7 +52,7 @@ fn behind(subject: Subject, line: &str) -> Option<&str>
     line.strip_prefix(subject_word(subject))
 }
 
-/// What a line searches, and what stands behind its word.
+/// Returns the subject that a line searches, and the rest after its word.
 fn subject_in(line: &str) -> Option<(Subject, &str)>
     ensures { MatchOption result
         ((subject : Subject) (rest : List ℕ) → line.now ≡ subject_word subject ++ rest → ⊥)
@@ -136,7 +136,7 @@ fn is_order(event: &Event) -> bool
     }
 }
 
-/// What an order asks.
+/// Returns the request of an order.
 fn asked_by(order: Event) -> ConsoleLine
     requires { IsOrder order }
     ensures { IsAskedBy order result }
@@ -154,7 +154,7 @@ fn asked_by(order: Event) -> ConsoleLine
     }
 }
 
-/// What an order spelled as in a capture asks.
+/// Returns the request of an order spelled as in a capture.
 fn order_of(alloc: Global, line: &str) -> Result<ConsoleLine, AllocError>
     ensures { IfOk result (SpellsOrder line.now) }
 {
@@ -178,7 +178,7 @@ fn backup_path(line: &str) -> Option<&str>
     line.strip_prefix("backup ")
 }
 
-/// What a text tells.
+/// Returns the meaning of a text.
 fn line_of(alloc: Global, text: &str) -> Result<ConsoleLine, AllocError>
     ensures { IfOk result (TellsLine text.now) }
 {
@@ -194,7 +194,7 @@ fn line_of(alloc: Global, text: &str) -> Result<ConsoleLine, AllocError>
     }
 }
 
-/// What octets tell, which are text or no line.
+/// Returns the meaning of octets, which are text or no line.
 pub fn line_in(alloc: Global, octets: &[u8]) -> Result<ConsoleLine, AllocError>
     ensures { IfOk result (TellsLine octets.now) }
 {
@@ -294,7 +294,7 @@ fn refused_text(alloc: Global, why: &str) -> Result<Vec<u8>, AllocError>
     Ok(text)
 }
 
-/// What is answered to a word that is none of a search.
+/// Returns the answer to a word that is none of a search.
 pub fn misspelled_text(alloc: Global, word: &str) -> Result<Vec<u8>, AllocError>
     ensures { IfOk result (λ text. text.items ≡ misspelled_text word.now) }
 {

@@ -20,7 +20,7 @@ pub static KINDS: [Kind; 5] = [
     Kind::Step,
 ];
 
-/// What rows are counted in.
+/// A place where rows are counted.
 pub trait Counting {
     /// The rows that are there.
     ghost rows: { Self → List Row };

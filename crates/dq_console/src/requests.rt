@@ -1,4 +1,4 @@
-//! What the console and the web front ask, done.
+//! Execution of the requests of the console and the web front.
 ghost use Rattle.std.specs.Prelude.{◌≡◌, IfOk, IfErr, OnOk, OnErr};
 ghost use Rattle.dq_core.specs.Looking.{Looked};
 ghost use Rattle.dq_core.specs.declared.event.Event.TheVariants as event;
@@ -48,7 +48,7 @@ impl<T: Tables> Counting for Turner<T> {
         (one.0.goes.was_honest honest, one.0.same honest) };
 }
 
-/// What is answered to an order. It has no reply but that it is done, or its refusal.
+/// Returns the answer to an order. An order has no reply but that it is done, or its refusal.
 fn order_response(reply: Reply) -> Response
     ensures { result ≡ order_response reply }
 {
@@ -59,7 +59,7 @@ fn order_response(reply: Reply) -> Response
     }
 }
 
-/// What is answered to a copy of all rows.
+/// Returns the answer to a copy of all rows.
 fn backup_response(made: Result<(), BackupError>) -> Response
     ensures { result ≡ backup_response made }
 {

@@ -43,7 +43,7 @@ fn shown(page: Page) -> ShownPage
     }
 }
 
-/// What is answered to a search that found this, and to one of a name that no institution has.
+/// Returns the answer to a search that found this, and to one of a name that no institution has.
 fn found_response(found: Option<Found>) -> Response
     ensures { result ≡ found_response found }
 {

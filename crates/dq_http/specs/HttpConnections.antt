@@ -1,4 +1,4 @@
--- What a connection of the web front reads and writes.
+-- The reads and writes of a connection of the web front.
 use Rattle.std.specs.Prelude.{◌≡◌, ◌⊎◌, ◌++◌, ◌&&◌, ℕ, ◌<◌, ◌/◌, ◌-◌, nat_le, Bool, true, false, not, is_some, IsTrue, if◌then◌else◌, List, [], length, drop, Option, Some, None, Result}
 use Rattle.std.specs.Borrow.{Bor}
 use Rattle.std.specs.Time.{instant_nanos}

@@ -1,4 +1,4 @@
--- What requests are answered by.
+-- The names and limits of institutions that requests are answered by.
 use Rattle.std.specs.Prelude.{[]}
 use Rattle.dq_config.specs.declared.config.Institution.{Institution}
 

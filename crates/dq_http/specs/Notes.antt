@@ -1,5 +1,5 @@
--- What a log tells of a request: the address that it came from, its method, its institution, the path below that
--- without its query, and the status of its response.
+-- The log's note of a request: the address that it came from, its method, its institution, the path below that without
+-- its query, and the status of its response.
 use Rattle.std.specs.Prelude.{◌≡◌, ◌==◌, ℕ, ◌++◌, Bool, ◌||◌, ◌&&◌, if◌then◌else◌, List, [], ◌∷◌, take, drop, map, position, codes, Option, Some, None}
 use Rattle.std.specs.Char.{is_ascii_graphic, is_ascii_uppercase, is_ascii_digit}
 use Rattle.std.specs.Fmt.{decimal}

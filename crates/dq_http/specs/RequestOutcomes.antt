@@ -1,4 +1,4 @@
--- What is done for the octets that came of a connection.
+-- The outcome for the octets that came from a connection.
 use Rattle.std.specs.Prelude.{◌≡◌, ℕ, true, false, IsTrue, List, Option, string_bytes}
 use Rattle.httpdate.specs.declared.date.HttpDate.{HttpDate}
 use Rattle.dq_web.specs.declared.parsed_request.ParsedRequest.{ParsedRequest}

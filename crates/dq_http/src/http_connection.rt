@@ -21,10 +21,11 @@ const HEAD_SECONDS: u64 = 15;
 /// The seconds in which its body has to come, from the end of its head.
 const BODY_SECONDS: u64 = 60;
 
-/// What a client waits for that asks to go on with the body of its request (RFC 9110 section 10.1.1).
+/// The response that a client waits for if it asks to go on with the body of its request (RFC 9110
+/// section 10.1.1).
 const CONTINUE: &[u8] = b"HTTP/1.1 100 Continue\r\n\r\n";
 
-/// What becomes of the request of a connection.
+/// The stage of a connection's request.
 #[derive(Drop)]
 pub(crate) enum Stage {
     /// It is read.
@@ -46,7 +47,7 @@ pub(crate) struct HttpConnection {
     pub came: Vec<u8>,
     pub stage: Stage,
     pub is_last: bool,
-    /// What came has not been looked at since the last octet of it.
+    /// The octets that came have not been looked at since the last of them.
     pub is_fresh: bool,
     /// The client was told to go on with the body of its request.
     pub is_continued: bool,
@@ -87,7 +88,7 @@ impl HttpConnection {
         matches!(self.stage, Stage::Waiting(_))
     }
 
-    /// What it waits to be answered.
+    /// Returns the request whose answer it waits for.
     pub fn asked(&self) -> Option<&Request>
         ensures { option_copied result ≡ asked_in self.now.stage }
     {
@@ -152,7 +153,7 @@ impl HttpConnection {
         }
     }
 
-    /// What is left of its response.
+    /// Returns the rest of its response.
     fn rest(&self) -> Option<&[u8]>
         ensures { IsRest self.now.stage result }
     {

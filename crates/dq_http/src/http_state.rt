@@ -1,4 +1,4 @@
-//! What is done for the octets that came of a connection.
+//! The outcomes for the octets that came from a connection.
 ghost use Rattle.std.specs.Prelude.{◌≡◌, ℕ, List, map, IfOk};
 ghost use Rattle.dq_web.specs.Answers.{IsReplyTo, IsResponse};
 ghost use Rattle.dq_web.specs.Requests.{IsCutOff, IsRequest};
@@ -17,7 +17,7 @@ use dq_web::{
 use httpdate::HttpDate;
 use std::alloc::{AllocError, Global};
 
-/// What is done for the octets that came of a connection.
+/// The outcome for the octets that came from a connection.
 #[derive(Drop)]
 pub(crate) enum RequestOutcome {
     /// Nothing yet: a head is not whole.
@@ -48,8 +48,8 @@ pub(crate) enum Given {
     Question(Question),
 }
 
-/// What requests are answered by: the keys and the hosts, the names and limits of institutions, and
-/// the counts of what was served.
+/// The state that requests are answered by: the keys and the hosts, the names and limits of
+/// institutions, and the counts of what was served.
 #[derive(Drop)]
 pub struct HttpState {
     pub(crate) alloc: Global,
@@ -58,7 +58,7 @@ pub struct HttpState {
     counters: Counters,
 }
 
-/// What counts here of an institution: its name and its limits.
+/// Returns the parts of an institution that count here: its name and its limits.
 fn limits_of(alloc: Global, institution: &Institution) -> Result<Institution, AllocError>
     ensures { IfOk result (λ known. known ≡ limits_of institution.now) }
 {
@@ -103,7 +103,7 @@ impl HttpState {
         self.counters = counters;
     }
 
-    /// What is done for octets that came, at a time.
+    /// Returns the outcome for octets that came, at a time.
     pub(crate) fn outcome_for(
         &self,
         came: &[u8],
@@ -127,7 +127,7 @@ impl HttpState {
         }
     }
 
-    /// What is done for a head whose body has not come.
+    /// Returns the outcome for a head whose body has not come.
     fn outcome_for_head(
         &self,
         head: &Head<'_>,
@@ -171,7 +171,7 @@ impl HttpState {
         }
     }
 
-    /// What a request is given.
+    /// Returns what a request is given.
     fn given_for(&self, request: &HttpRequest<'_>, framing: Framing) -> Result<Given, AllocError>
         ensures { IfOk result (IsGiven self.now.guard request.now framing) }
     {

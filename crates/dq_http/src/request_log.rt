@@ -1,4 +1,4 @@
-//! What a log tells of a request.
+//! The log's note of a request.
 ghost use Rattle.std.specs.Prelude.{◌≡◌, ◌++◌, ◌==◌, [], None, position, string_bytes, take, IfOk, OnOk};
 ghost use Rattle.std.specs.List.{list_all};
 ghost use Rattle.dq_http.specs.Notes.{told_octet, told_text, is_of_name, path_of, parts_of, words_text, peer_text, HasNote};
@@ -53,7 +53,7 @@ fn place_of(octet: u8, octets: &[u8]) -> Option<usize>
     octets.iter().position(|it| *it == octet)
 }
 
-/// What stands before the query of a target.
+/// Returns the part of a target before its query.
 fn path_of(target: &[u8]) -> &[u8]
     ensures { result.now ≡ path_of target.now }
 {

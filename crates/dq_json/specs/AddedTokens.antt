@@ -1,4 +1,4 @@
--- What a step of writing JSON does: it adds tokens after those that stand there.
+-- A step of writing JSON: it adds tokens after those that are already there.
 use Rattle.std.specs.Prelude.{◌≡◌, List, ◌++◌, Result, OnOk}
 use Rattle.json.specs.Token.{Token}
 use Rattle.json.specs.Written.{Written}

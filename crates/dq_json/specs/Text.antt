@@ -43,8 +43,8 @@ character_in table octet =
 abbrev pub ascii_or_replaced : ℕ → ℕ
 ascii_or_replaced octet = if nat_lt octet 128 then octet else 0xFFFD
 
--- What is UTF-8 stays, and each piece that is no UTF-8 becomes U+FFFD. Sets with one octet a
--- character are converted. Of all others each octet above 7FH becomes U+FFFD.
+-- Octets that are UTF-8 stay, and each piece that is not UTF-8 becomes U+FFFD. Sets with one octet a character are
+-- converted. Of all others each octet above 7FH becomes U+FFFD.
 unfoldable pub text_in : Repertoire → List ℕ → List ℕ
 text_in Utf8 octets = utf8_lossy octets
 text_in (OneOctet table) octets = flat_map (λ octet. encode_utf8 (character_in table octet)) octets
@@ -93,8 +93,7 @@ repertoire_by outer (Some e) = repertoire_in e.value
 abbrev pub repertoire_of : Repertoire → ElementList → Repertoire
 repertoire_of outer d = repertoire_by outer (find (has_tag specific_character_set) (elements_of d))
 
--- What is told of the octets of an element: text is told as UTF-8, and Specific Character Set says
--- so.
+-- The octets of an element as they are told: text is told as UTF-8, and Specific Character Set says so.
 unfoldable pub octets_told : Tag → List ℕ → List ℕ
 octets_told tag octets =
     if (tag.group == specific_character_set.group) && (tag.element == specific_character_set.element)

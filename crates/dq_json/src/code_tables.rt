@@ -56,7 +56,7 @@ impl CodeTable {
         None
     }
 
-    /// What the octets from A0H on stand for.
+    /// Returns the characters that the octets from A0H on stand for.
     #[tactic(auto, unfolding(crate::specs::Text::high_half))]
     fn high_half(self) -> &'static [char; 96]
         ensures { result.now ≡ high_half self }
@@ -90,7 +90,7 @@ impl CodeTable {
     }
 }
 
-/// What an octet stands for where its set has no character.
+/// The character for an octet that has none in its set.
 pub(crate) const NONE: char = '\u{fffd}';
 
 /// ISO_IR 100: ISO 8859-1.

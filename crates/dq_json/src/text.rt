@@ -57,7 +57,8 @@ pub(crate) fn repertoire_of(outer: Repertoire, data_set: &DataSet) -> Repertoire
     }
 }
 
-/// What is told of the octets of an element: text is told as UTF-8, and Specific Character Set says so.
+/// Returns the octets of an element as they are told: text is told as UTF-8, and Specific Character
+/// Set says so.
 #[tactic(auto, unfolding(crate::specs::Text::octets_told))]
 pub(crate) fn octets_told(tag: Tag, octets: &[u8]) -> &[u8]
     ensures { result.now ≡ octets_told tag octets.now }

@@ -1,5 +1,5 @@
-//! What may be asked of the server beside associations, and what it answers. The console and the web front
-//! each spell both in their own way.
+//! The requests that may be made of the server beside associations, and its responses. The console
+//! and the web front each spell both in their own way.
 #![tactic(auto)]
 
 mod identifier;

@@ -1,8 +1,8 @@
-//! What is asked.
+//! Requests to the server.
 use crate::search::Search;
 use dq_list::Listed;
 
-/// What is asked of the server.
+/// A request to the server.
 #[derive(Debug, Drop)]
 pub enum Request {
     /// A page of what keys find among what an institution keeps.

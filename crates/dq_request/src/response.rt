@@ -1,4 +1,4 @@
-//! What is answered.
+//! Responses to requests.
 ghost use Rattle.std.specs.Prelude.{◌≡◌, IfOk, string_bytes};
 ghost use Rattle.dq_request.specs.Responses.{cause_text, backup_error_word};
 
@@ -50,14 +50,14 @@ pub enum Cause {
     Copy(BackupError),
 }
 
-/// What is answered to a request.
+/// The response to a request.
 #[derive(Drop)]
 pub enum Response {
     /// The data sets that a search found, in their order.
     Found(Listed<DataSet>),
     /// How much institutions keep.
     Counted(Listed<Counted>),
-    /// What was asked is done.
+    /// The request is done.
     Done,
     /// It is not, and nothing changed.
     Refused(Cause),

@@ -15,7 +15,7 @@ use std::alloc::{AllocError, Global};
 /// The most octets of a value.
 const VALUE_MOST: usize = 65_534;
 
-/// What is searched.
+/// The subject of a search.
 #[derive(Clone, Copy, Debug, PartialEq, Eq)]
 pub enum Subject {
     Studies,
@@ -83,8 +83,8 @@ fn octets_of(alloc: Global, text: &str) -> Result<Option<Listed<u8>>, AllocError
     Ok(Some(Listed::from_inner(octets)))
 }
 
-/// What parts values (PS3.5 section 6.4), where a list of UIDs is spelled with commas (PS3.18 section
-/// 8.3.4.1).
+/// Turns a comma in a list of UIDs (PS3.18 section 8.3.4.1) into the separator of values (PS3.5
+/// section 6.4).
 fn uid_octet(octet: u8) -> u8
     ensures { result ≡ uid_octet octet }
 {

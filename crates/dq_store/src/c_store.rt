@@ -83,7 +83,7 @@ pub fn store_telling<T: Tables>(
     let Some(sent) = Instance::of(&message.command, data_set, other) else {
         return Ok(status::DOES_NOT_MATCH_SOP_CLASS);
     };
-    // What a sieve keeps can be written.
+    // A data set that a sieve keeps can be written.
     if !can_be_written(data_set, Syntax::Explicit) {
         return Ok(status::OUT_OF_RESOURCES);
     }

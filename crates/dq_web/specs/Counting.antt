@@ -1,4 +1,4 @@
--- What the server counts of itself.
+-- The server's counts of itself.
 use Rattle.std.specs.Prelude.{◌≡◌, ℕ, ◌+◌, ◌-◌, ◌/◌, ◌==◌, ◌||◌, min, nat_le, if◌then◌else◌}
 use Rattle.dq_web.specs.declared.counters.Class.{Class}
 use Rattle.dq_web.specs.declared.counters.Class.TheVariants.{Success, Warning, Refused, Pending}

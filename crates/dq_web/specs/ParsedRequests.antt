@@ -1,4 +1,4 @@
--- What requests of HTTP ask of the server.
+-- The questions that HTTP requests ask of the server.
 use Rattle.std.specs.Prelude.{◌≡◌, ◌⊎◌, ◌==◌, ℕ, ◌++◌, ◌&&◌, ◌||◌, not, nat_le, Bool, true, false, IsTrue, List, [], ◌∷◌, length, filter, codes, string_bytes, Option, Some, is_some, option_copied}
 use Rattle.std.specs.List.{list_all, list_any, slice_split, starts_with}
 use Rattle.std.specs.Option.{option_and_then}

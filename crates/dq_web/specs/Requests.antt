@@ -113,8 +113,7 @@ pub record IsRequest (octets : List ℕ) (request : HttpRequest) : Type 0 where
   pub whole : length request.body.now ≡ request.head.body_length
   pub extent : request.extent ≡ request.head.extent + length request.body.now
 
--- What was cut off octets. No whole head is there, in at most 16 KiB; or a head whose body is not whole; or a
--- request.
+-- The cut of octets. No whole head is there, in at most 16 KiB; or a head whose body is not whole; or a request.
 abbrev pub IsCutOff : List ℕ → Cut → Type 0
 IsCutOff octets Unfinished = (length octets ≤ 16384) × HasNoRequest octets
 IsCutOff octets (Begun head) = IsHead octets head × (length octets < head.extent + head.body_length)

@@ -98,8 +98,8 @@ content_type kind.Metrics = codes "text/plain; version=0.0.4; charset=utf-8"
 abbrev pub line_end : List ℕ
 line_end = codes "\r\n"
 
--- What each response says: nothing is kept of it (RFC 9111 section 5.2.2.5), nothing is guessed of its
--- body, a page tells no other site where it was, and it loads and calls only what is of its own host.
+-- Fields of every response: nothing is kept of it (RFC 9111 section 5.2.2.5), nothing is guessed of its body, a page
+-- tells no other site where it was, and it loads and calls only what is of its own host.
 unfoldable pub guarding_fields : List ℕ
 guarding_fields =
     codes "Cache-Control: no-store\r\n" ++ codes "X-Content-Type-Options: nosniff\r\n"

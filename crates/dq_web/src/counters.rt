@@ -1,4 +1,5 @@
-//! What the server counts of itself for the operator. Each sum stops at the most that it can hold.
+//! Counts that the server keeps of itself for the operator. Each sum stops at the most that it can
+//! hold.
 ghost use Rattle.std.specs.Prelude.{◌≡◌};
 ghost use Rattle.dq_web.specs.Counting.{one_more, one_less, class_of, after, within, Served, turns_after};
 
@@ -44,7 +45,7 @@ pub struct Turns {
     pub micros: u64,
 }
 
-/// What the server counts of itself since it started.
+/// The server's counts of itself since it started.
 #[derive(Clone, Copy, Debug, Default, PartialEq, Eq)]
 pub struct Counters {
     pub current: u64,

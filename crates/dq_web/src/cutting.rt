@@ -61,7 +61,7 @@ pub struct HttpRequest<'a> {
     pub extent: usize,
 }
 
-/// What stands at the front of the octets of a connection.
+/// The result of reading the front of a connection's octets.
 #[derive(Clone, Copy)]
 pub enum Cut<'a> {
     /// No whole head yet.
@@ -72,7 +72,7 @@ pub enum Cut<'a> {
     Refused(Refusal),
 }
 
-/// What is asked of the words of a list in a field.
+/// A test of the words of a list in a field.
 #[derive(Clone, Copy)]
 enum Test {
     /// That there is one.

@@ -11,7 +11,8 @@ use crate::refusal::Refusal;
 use crate::resource::behind;
 use dq_list::Listed;
 
-/// What the front admits: the keys, and a host of its own beside those of the loopback.
+/// The keys that the front admits, and a host of its own that it admits beside those of the
+/// loopback.
 #[derive(Drop)]
 pub struct Guard {
     pub keys: Keys,
@@ -30,7 +31,7 @@ fn is_same(text: &str, other: &str) -> bool
     is_named(text.as_bytes(), other.as_bytes())
 }
 
-/// What stands before a place in a text, and what behind it.
+/// Returns the part of a text before a place, and the part after it.
 fn parts_at(text: &str, at: usize) -> Option<(&str, &str)>
     ensures { IfSome result (λ parts. text.now ≡ parts.0.now ++ parts.1.now) }
 {

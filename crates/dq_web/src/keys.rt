@@ -49,7 +49,7 @@ impl From<AllocError> for KeysFault {
     }
 }
 
-/// What stands before the first space, and what behind it.
+/// Returns the text before the first space, and the text after it.
 pub(crate) fn at_space(text: &str) -> Option<(&str, &str)>
     ensures { IfSome result (λ parts. text.now ≡ parts.0.now ++ codes " " ++ parts.1.now) }
 {

@@ -1,4 +1,4 @@
-//! What holds of each question that is asked. Each function's contract is a law; its body does
+//! Laws that hold of each question that is asked. Each function's contract is a law; its body does
 //! nothing.
 ghost use Rattle.std.specs.Prelude.{◌≡◌, ◌≢◌, ℕ, List, String, codes, string_bytes, option_copied};
 ghost use Rattle.std.specs.Global.{Global};
@@ -26,7 +26,7 @@ pub fn a_get_only_looks()
         → request.head.method.now ≢ codes "DELETE" → IsLook question.asked }
 {}
 
-/// What is searched is what the institution of the path keeps.
+/// A search is of what the institution of the path keeps.
 pub fn a_search_stays_in_its_institution()
     ensures { (guard : Guard) (request : HttpRequest) (question : Question) (search : Search)
         → IsQuestion guard request question → question.asked ≡ ask.Search search

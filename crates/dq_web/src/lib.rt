@@ -1,4 +1,5 @@
-//! What requests of HTTP ask of the server, and how its answers are sent back: no sockets, no rows.
+//! The questions that HTTP requests ask of the server, and how its answers are sent back: no
+//! sockets, no rows.
 #![tactic(auto)]
 
 mod counters;

@@ -1,4 +1,4 @@
-//! What the server counts, in the text format 0.0.4 of Prometheus.
+//! The server's counts, in the Prometheus text format 0.0.4.
 
 use crate::counters::{Counters, Operations, Turns};
 use crate::replies::{put, put_number};
@@ -204,7 +204,7 @@ fn put_turns(alloc: Global, text: &mut Vec<u8>, turns: Turns) -> Result<(), Allo
     put_sample(alloc, text, "newtiron_turn_seconds_count", turns.all)
 }
 
-/// What each institution keeps, their limits, and what the server counts of itself.
+/// Returns how much each institution keeps, their limits, and the server's counts of itself.
 pub(crate) fn metrics_text(
     alloc: Global,
     counted: &[Counted],

@@ -1,4 +1,4 @@
-//! What requests of HTTP ask of the server.
+//! The questions that HTTP requests ask of the server.
 ghost use Rattle.std.specs.Prelude.{◌≡◌, ◌==◌, ◌++◌, ◌∷◌, [], ◌||◌, codes, Some, IsTrue, IfOk, OnOk, IfNone, MatchOption, MatchBool, is_some, option_copied};
 ghost use Rattle.std.specs.List.{list_all, list_any, starts_with};
 ghost use Rattle.std.specs.Str.{bytes_eq};
@@ -33,7 +33,7 @@ pub struct Wish {
     pub has_unknown: bool,
 }
 
-/// What is asked of the server, and how its response is sent back.
+/// A request to the server, and how its response is sent back.
 #[derive(Debug, Drop)]
 pub struct Question {
     pub asked: Request,
@@ -50,7 +50,7 @@ pub enum Document {
     Script,
 }
 
-/// What is done for a request.
+/// The action to take for a request.
 #[derive(Debug, Drop)]
 pub enum ParsedRequest {
     Refused(Refusal),
@@ -71,7 +71,7 @@ pub enum Method {
     Other,
 }
 
-/// What a head aims at: a resource, a method, and the query behind the path.
+/// The aim of a head: a resource, a method, and the query after the path.
 #[derive(Clone, Copy)]
 pub struct Aim<'a> {
     pub resource: Resource<'a>,
@@ -79,7 +79,7 @@ pub struct Aim<'a> {
     pub query: &'a str,
 }
 
-/// What a path, a method, a query and a body come to.
+/// The result of reading a path, a method, a query and a body.
 #[derive(Drop)]
 enum Wanted {
     Request(Request),
@@ -473,7 +473,7 @@ fn check_accept(fields: &Fields<'_>) -> Result<(), Refusal>
     }
 }
 
-/// What GET asks.
+/// Returns what GET asks.
 fn look_at(
     alloc: Global,
     resource: Resource<'_>,
@@ -510,7 +510,7 @@ fn back_up(alloc: Global, path: &[u8]) -> Result<Request, Unasked>
     }
 }
 
-/// What POST asks.
+/// Returns the request that POST makes.
 fn post_at(alloc: Global, resource: Resource<'_>, body: &[u8]) -> Result<Request, Unasked>
     ensures { IfOk result (Posting resource.entry body.now) }
 {
@@ -524,7 +524,7 @@ fn post_at(alloc: Global, resource: Resource<'_>, body: &[u8]) -> Result<Request
     }
 }
 
-/// What DELETE asks.
+/// Returns the request that DELETE makes.
 fn delete_at(alloc: Global, resource: Resource<'_>) -> Result<Request, Unasked>
     ensures { IfOk result (Deleting resource.entry) }
 {
@@ -539,7 +539,7 @@ fn delete_at(alloc: Global, resource: Resource<'_>) -> Result<Request, Unasked>
     })
 }
 
-/// What a head and a body ask.
+/// Returns what a head and a body ask.
 fn wanted_by(
     alloc: Global,
     aim: Aim<'_>,
@@ -584,7 +584,7 @@ fn check_path(alloc: Global, path: &str) -> Result<(), Unasked>
     }
 }
 
-/// What a head aims at, if it is let in.
+/// Returns the aim of a head, if it is let in.
 fn let_in<'a>(alloc: Global, guard: &Guard, head: &Head<'a>) -> Result<Aim<'a>, Unasked>
     ensures { IfOk result (IsLetIn guard.now head.now) }
 {
@@ -619,7 +619,7 @@ fn question_of(asked: Request, wish: Wish) -> Question
     }
 }
 
-/// What is done for a request, or why nothing is.
+/// Returns the action to take for a request, or why there is none.
 fn answer_for(
     alloc: Global,
     guard: &Guard,
@@ -646,8 +646,9 @@ fn answer_for(
     }
 }
 
-/// What a request asks of the server, what else answers it, or why it is refused: a host that is not
-/// the front's, a page of another origin, a path, a method, or a key that does not open the path.
+/// Returns what a request asks of the server, what else answers it, or why it is refused: a host
+/// that is not the front's, a page of another origin, a path, a method, or a key that does not open
+/// the path.
 pub fn ask(
     alloc: Global,
     guard: &Guard,

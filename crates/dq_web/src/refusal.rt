@@ -28,11 +28,11 @@ pub enum Refusal {
     Origin,
     /// Nothing stands at the path.
     Path,
-    /// What stands at the path has other methods.
+    /// The resource at the path has other methods.
     Method(Allowed),
     /// The key does not open the path.
     Key,
-    /// What the path has is in no form that is accepted.
+    /// The resource at the path is in no form that is accepted.
     Accept,
     /// The search is not supported.
     Unsupported,

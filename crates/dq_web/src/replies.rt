@@ -10,7 +10,7 @@ use dq_list::Listed;
 use httpdate::HttpDate;
 use std::alloc::{AllocError, Global};
 
-/// What a body is.
+/// The kind of a body.
 #[derive(Clone, Copy, Debug, PartialEq, Eq)]
 pub enum Kind {
     Page,
@@ -245,7 +245,7 @@ fn head_of(alloc: Global, reply: &Reply, framing: Framing) -> Result<Vec<u8>, Al
     Ok(head)
 }
 
-/// What is sent of a body.
+/// Returns the part of a body that is sent.
 fn content(is_head: bool, body: &[u8]) -> &[u8]
     ensures { result.now ≡ content is_head body.now }
 {

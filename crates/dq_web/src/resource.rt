@@ -1,8 +1,8 @@
-//! What a path names.
+//! The resources that paths name.
 ghost use Rattle.std.specs.Prelude.{◌≡◌, ◌++◌, codes, IfSome};
 ghost use Rattle.dq_web.specs.Resources.{IsPath, IsPathBelow, IsPathOfStudies};
 
-/// What stands at a path. Of a request only the path names an institution.
+/// The resource at a path. Only the path of a request names an institution.
 #[derive(Clone, Copy)]
 pub enum Resource<'a> {
     Page,
@@ -23,7 +23,7 @@ pub enum Resource<'a> {
     Nowhere,
 }
 
-/// What stands before the first slash, and what behind it.
+/// Returns the text before the first slash, and the text after it.
 pub(crate) fn at_slash(text: &str) -> Option<(&str, &str)>
     ensures { IfSome result (λ parts. text.now ≡ parts.0.now ++ codes "/" ++ parts.1.now) }
 {
@@ -33,7 +33,7 @@ pub(crate) fn at_slash(text: &str) -> Option<(&str, &str)>
     }
 }
 
-/// What stands behind a word at the front of a text.
+/// Returns the rest of a text after a word at its front.
 pub(crate) fn behind<'a>(text: &'a str, word: &str) -> Option<&'a str>
     ensures { IfSome result (λ rest. text.now ≡ word.now ++ rest.now) }
 {
@@ -84,7 +84,7 @@ fn resource_of_institution<'a>(institution: &'a str, rest: &'a str) -> Resource<
     }
 }
 
-/// What stands at a path.
+/// Returns the resource at a path.
 pub fn resource_of(path: &str) -> Resource<'_>
     ensures { IsPath path.now result }
 {

@@ -4,7 +4,7 @@ ghost use Rattle.dq_web.specs.Responses.{status_line, status_code, refusal_statu
 
 use crate::refusal::{Allowed, Refusal};
 
-/// What a response says of its request.
+/// The status that a response gives for its request.
 #[derive(Clone, Copy, Debug, PartialEq, Eq)]
 pub enum Status {
     Done,
