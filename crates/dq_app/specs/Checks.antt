@@ -1,4 +1,4 @@
--- What a check of a configuration prints, and what it stops by.
+-- The output of a check of a configuration, and the reasons why a check stops.
 use Rattle.std.specs.Prelude.{◌≡◌, ◌⊎◌, ℕ, List, ◌∷◌, [], ◌++◌, codes, Option, Some, None, IfSome, IsTrue, is_some}
 use Rattle.std.specs.Fmt.{decimal}
 use Rattle.std.specs.List.{flat_map}
@@ -49,8 +49,7 @@ counted_lines rows institution = institution_lines institution ++ report_line ro
 abbrev pub counted_check_text : List Row → List Institution → List ℕ
 counted_check_text rows institutions = flat_map (counted_lines rows) institutions
 
--- What is listed of institutions: with their rows, as far as those of the store are known, where one
--- is named.
+-- The list of institutions: with their rows, as far as those of the store are known, if a store is named.
 abbrev pub IsListed : (List ℕ → Option (List Row)) → Option (List ℕ) → List Institution → List ℕ
     → Type 0
 IsListed stored None institutions text = text ≡ check_text institutions
@@ -77,8 +76,7 @@ module _ (held : List ℕ → Option (List ℕ)) (stored : List ℕ → Option (
       × ((text : List ℕ) × IsListed stored store institutions text × AppendsPart before after text)
   CutsList fails store institutions cause = Keeps before after × EndsList store cause
 
-  -- What a check stops by: a refused configuration, where nothing was printed, or a list that is cut
-  -- short.
+  -- The reasons why a check stops: a refused configuration, when nothing was printed, or a list that is cut short.
   abbrev pub StopsCheck : (List ℕ → Type 0) → Type 0 → Checking → Stop → Type 0
   StopsCheck unread fails checking cause = (Keeps before after
       × RefusesChecked (unread checking.config) (held checking.config) cause)

@@ -1,4 +1,4 @@
--- What is done for what the words ask, and what it stops by.
+-- The effects of the command that the words ask for, and the reasons why it stops.
 use Rattle.std.specs.Prelude.{◌≡◌, ℕ, List, length, Option, IfSome}
 use Rattle.std.specs.Io.KnownBytes.{Appends}
 use Rattle.dq_tables.specs.declared.row.Row.{Row}
@@ -12,8 +12,8 @@ use Rattle.dq_app.specs.Looping.{IsLooped, EndsLoop}
 use Rattle.dq_app.specs.Program.{IsReplayed, StopsPlay, migrated_line, EndsMigration}
 use Rattle.dq_app.specs.Serving.{IsServed, StopsService}
 
--- What is held in files and in stores, what is there once a store is closed, the input, and what was
--- written before and after, as far as these are known.
+-- The contents of files and of stores, the state once a store is closed, the input, and the output before and after, as
+-- far as these are known.
 module _ {Wired Console : Type 0} (log : Wired → Option (List Call))
     (console_log : Console → Option (List Call)) (held : List ℕ → Option (List ℕ))
     (stored migrated : List ℕ → Option (List Row))

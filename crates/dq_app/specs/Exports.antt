@@ -1,4 +1,4 @@
--- What an export of an institution's rows prints, and what it stops by.
+-- The output of an export of an institution's rows, and the reasons why an export stops.
 use Rattle.std.specs.Prelude.{◌≡◌, ◌⊎◌, ℕ, List, [], ◌∷◌, map, take, Option, Some, None, IfSome}
 use Rattle.std.specs.Io.KnownBytes.{Keeps, Appends}
 use Rattle.std.specs.List.{flat_map}
@@ -64,8 +64,8 @@ module _ (stored : List ℕ → Option (List Row)) (before after : Option (List 
       × IfSome (stored exporting.store) (λ rows. (kept ≡ rows)
       × Appends before after (export_text rows exporting))
 
-  -- What an export stops by: a refused store, where nothing was printed; the fault of a run or an output
-  -- that fails, where the lines are cut short; or a store that is not closed, where all was printed.
+  -- The reasons why an export stops: a refused store, when nothing was printed; the fault of a run or an output that
+  -- fails, when the lines are cut short; or a store that is not closed, when all was printed.
   abbrev pub StopsExport : Type 0 → Exporting → Stop → Type 0
   StopsExport fails exporting cause = (Keeps before after × RefusesStore cause)
       ⊎ ((EndsTask fails cause × IfSome (stored exporting.store) (λ rows.

@@ -1,4 +1,4 @@
--- What a response makes of a web front, if there is one.
+-- The effect of a response on a web front, if there is one.
 use Rattle.std.specs.Prelude.{Option, Some, None}
 use Rattle.dq_request.specs.declared.response.Response.{Response}
 use Rattle.dq_http.specs.declared.http_server.HttpServer.{HttpServer}

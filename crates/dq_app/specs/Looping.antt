@@ -40,8 +40,8 @@ module _ {Wired : Type 0} (log : Wired → Option (List Call)) (held : List ℕ 
       × (map sent_number all ≡ opened_numbers events) × ArePlayedOver log institutions events
       × IsSo (sent_text all))
 
-  -- What a play over sockets stops by: an output that fails, after the first octets of the lines, and
-  -- else nothing was printed.
+  -- The reasons why a play over sockets stops: an output that fails, after the first octets of the lines; for any other
+  -- reason nothing was printed.
   abbrev pub EndsLoop : Type 0 → Option (List ℕ) → Option (List ℕ) → Stop → Type 0
   EndsLoop may_fail before after stop.Output = IsLooped (BreaksOff may_fail before after)
   EndsLoop may_fail before after stop.Usage = ⊥

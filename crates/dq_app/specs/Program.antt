@@ -1,4 +1,4 @@
--- What the program does with its words, a configuration and a capture.
+-- The program's behaviour on its words, a configuration and a capture.
 use Rattle.std.specs.Prelude.{◌≡◌, ◌≢◌, ℕ, zero, suc, ◌<◌, ◌≤◌, ◌==◌, ◌⊎◌, if◌then◌else◌, codes, IfSome}
 use Rattle.std.specs.Prelude.{List, [], ◌∷◌, ◌++◌, length, take, Option, None, Some, option_map, Ok, Err}
 use Rattle.std.specs.Str.{IsUtf8}
@@ -94,7 +94,7 @@ status_of (stop.Fault number) = 4
 status_of stop.Output = 4
 status_of stop.Network = 5
 
--- What is wrong with a configuration, in words, by the number of its fault.
+-- The error of a configuration in words, by the number of its fault.
 abbrev pub config_words : ℕ → List ℕ
 config_words number =
     if number == 0 then codes "the file cannot be read, or is not UTF-8"
@@ -116,7 +116,7 @@ abbrev pub misfit_text : Misfit → List ℕ
 misfit_text misfit = place_text misfit.line
     ++ numbered_line (config_words misfit.number ++ line_feed ∷ codes "config ") misfit.number
 
--- What is told of a stop on standard error. For usage that is the command line's own text.
+-- The text of a stop on standard error. For usage that is the command line's own text.
 abbrev pub stop_text : Stop → List ℕ
 stop_text stop.Usage = []
 stop_text (stop.Config number) = numbered_line (codes "config ") number
@@ -266,8 +266,7 @@ rows_at stored InMemory = Some []
 rows_at stored (InNewStore path) = option_map (λ rows. []) (stored path)
 rows_at stored (InStore path) = stored path
 
--- What a task prints: of a replay the replies, and of a report how many rows each institution has
--- after the events.
+-- The output of a task: for a replay the replies, and for a report how many rows each institution has after the events.
 abbrev pub text_of : Task → List Institution → List Row → List Event → List ℕ
 text_of Replay institutions rows events = reply_lines (replies institutions rows events)
 text_of Report institutions rows events =
@@ -300,8 +299,8 @@ CutsTask Report before after institutions rows events =
 abbrev pub migrated_line : List ℕ
 migrated_line = codes "migrated" ++ line_feed ∷ []
 
--- What a migration stops by: a refused store, where nothing was printed; an output that fails, after the first octets
--- of the line; or a new store that is not closed, after the line.
+-- The reasons why a migration stops: a refused store, when nothing was printed; an output that fails, after the first
+-- octets of the line; or a new store that is not closed, after the line.
 abbrev pub EndsMigration : Type 0 → Option (List ℕ) → Option (List ℕ) → Stop → Type 0
 EndsMigration may_fail before after stop.Output =
     may_fail × AppendsPart before after migrated_line
@@ -329,8 +328,8 @@ IsReplayed held stored closed input before after request =
     Appends before after (text_of request.task institutions rows events))
     × ClosesAt request.place closed (AreAfter (rows_at stored request.place) institutions events))
 
--- What a task stops by: a refused configuration, capture or store, where nothing was printed; an
--- early end; or a store that is not closed, where all was printed.
+-- The reasons why a task stops: a refused configuration, capture or store, when nothing was printed; an early end; or a
+-- store that is not closed, when all was printed.
 module _ (request : Request) (file_fails : List ℕ → Type 0) (held : List ℕ → Option (List ℕ))
     (stored : List ℕ → Option (List Row)) (input_fails : Type 0) (input : Option (List ℕ))
     (fails : Type 0) (before after : Option (List ℕ)) where

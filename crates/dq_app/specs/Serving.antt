@@ -1,4 +1,4 @@
--- What serving connections does.
+-- The service of connections.
 use Rattle.std.specs.Prelude.{◌≡◌, ◌⊎◌, ◌≤◌, ◌^◌, ◌-◌, ◌*◌, ℕ, nat_lt, if◌then◌else◌, List, [], ◌∷◌, ◌++◌, length, codes, Option, Some, None, option_map, IfSome}
 use Rattle.std.specs.Duration.{as_nanos}
 use Rattle.std.specs.List.{flat_map}
@@ -257,8 +257,7 @@ module _ {Wired Console : Type 0} (log : Wired → Option (List Call))
       × (IsInStore serving.place → closed kept)))
       × ClosesAt serving.place closed (λ _. Unit {0})
 
-  -- What a service stops by: a refused configuration or store, where nothing was printed, or an
-  -- early end.
+  -- The reasons why a service stops: a refused configuration or store, when nothing was printed, or an early end.
   abbrev pub StopsService : Type 0 → (List ℕ → Type 0) → Type 0 → Stop → Type 0
   StopsService breaks unread may_fail cause =
       (Keeps before after × RefusesFile unread held serving.config cause)

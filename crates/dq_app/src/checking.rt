@@ -27,7 +27,7 @@ use std::alloc::{AllocError, Global};
 /// A file that cannot be read, or is no text.
 const UNREADABLE: Misfit = Misfit { number: 0, line: 0 };
 
-/// What is wrong with a text that is refused by a fault.
+/// Returns the error of a text that is refused with a fault.
 fn misfit_of(alloc: Global, text: &[u8], fault: ConfigFault) -> Result<Misfit, AllocError>
     ensures number { IfOk result (λ misfit. misfit.number ≡ config_fault_number fault) }
     ensures line { fault ≢ NoMemory → IfOk result (λ misfit. IsLineOf text.now fault misfit.line) }
@@ -185,7 +185,8 @@ fn list_over<T: Tables + Drop>(
     counted_list_of(alloc, &mut kept, institutions)
 }
 
-/// What a check lists: institutions, with their rows in the store of a path, if one is named.
+/// Returns the list that a check prints: institutions, with their rows in the store at a path, if
+/// one is named.
 fn listed<Rt: AllocGlobal + Stores>(
     rt: &Rt,
     store: Option<&str>,

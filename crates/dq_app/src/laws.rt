@@ -42,8 +42,8 @@ pub fn replays_of_stores_are_exact<Rt: AllocGlobal + Stores>(
     }
 }
 
-/// What an export prints depends on the institution's own records alone: changes of another one leave it
-/// as it is. Each of these records is exported once, in the order of the keys.
+/// The output of an export depends only on the institution's own records: changes of another one
+/// leave it as it is. Each of these records is exported once, in the order of the keys.
 #[tactic(auto, using(crate::proofs::Exported::own_alone, crate::proofs::Exported::others_stay, crate::proofs::Exported::in_order))]
 pub fn exports_are_of_own_records()
     ensures own { (exporting : Exporting) (one other : List Row)

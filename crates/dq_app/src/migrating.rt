@@ -10,7 +10,7 @@ use crate::stores::Stores;
 use dq_captures::Sink;
 use dq_cli::Migration;
 
-/// What is printed once the new store is made.
+/// The line that is printed once the new store is made.
 const MIGRATED: &[u8] = b"migrated\n";
 
 /// Makes a new store of the rows of one of the version before, prints that it is made, and closes it.

@@ -83,7 +83,7 @@ pub struct Entrance<'a> {
     pub web: Option<Web<'a>>,
 }
 
-/// What listens for connections.
+/// A network, which listens for connections.
 pub trait Network {
     /// The wires over which they come.
     type Wired: Called<Self> + Drop;

@@ -14,7 +14,7 @@ use dq_core::{Fault, Outcome, Reply, run};
 use dq_tables::Tables;
 use std::alloc::Global;
 
-/// What a history comes to over the rows that are there.
+/// Returns the outcome of a history over the rows that are there.
 pub fn outcome_of<T: Tables + Drop>(
     alloc: Global,
     history: History,

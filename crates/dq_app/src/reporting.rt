@@ -1,4 +1,4 @@
-//! What is kept after a capture, counted.
+//! Counts of the rows that are kept after a capture.
 ghost use Rattle.std.specs.Prelude.{◌≡◌, ◌≢◌, false, IsTrue, IfOk, IfErr, OnOk};
 ghost use Rattle.std.specs.Io.KnownBytes.{Appends};
 ghost use Rattle.dq_core.specs.declared.fault.Fault.{Fault};
@@ -64,7 +64,7 @@ pub fn names_of(alloc: Global, institutions: &[Institution]) -> Result<Vec<Liste
     Ok(names)
 }
 
-/// What is kept after a history, over the rows that are there.
+/// Returns the tables that are kept after a history, over the rows that are there.
 fn kept_after<T: Tables + Drop>(alloc: Global, history: History, tables: T) -> Result<T, Fault>
     requires formed { IsTrue (is_well_formed_history history.events.items) }
     requires unfailed { (T.state tables).failed ≡ false }

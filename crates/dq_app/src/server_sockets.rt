@@ -60,7 +60,7 @@ fn resident_octets(rt: &HostRuntime) -> u64 {
     pages.saturating_mul(PAGE_OCTETS)
 }
 
-/// What a service counts as.
+/// Returns the counted service that a service counts as.
 fn counted_as(service: Service) -> CountedService {
     match service {
         Service::Verification => CountedService::Echo,

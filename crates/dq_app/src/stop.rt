@@ -14,9 +14,9 @@ use dq_wires::TurnFault;
 use std::alloc::AllocError;
 use std::io;
 
-/// What is wrong with a configuration that is checked: the number of its fault, 0 for a file that
-/// cannot be read or is no text; and the line where the institution begins with which it is refused,
-/// 0 where that is not known.
+/// The error of a configuration that is checked: the number of its fault, 0 for a file that cannot
+/// be read or is not text; and the line where the refused institution begins, 0 if that is not
+/// known.
 #[derive(Clone, Copy, Debug, PartialEq, Eq)]
 pub struct Misfit {
     pub number: u8,
@@ -156,7 +156,7 @@ impl From<ListenError> for Stop {
     }
 }
 
-/// What is wrong with a configuration, in words, by the number of its fault, and what comes before
+/// Returns the error of a configuration in words, by the number of its fault, and the text before
 /// that number.
 fn config_words(number: u8) -> &'static str
     ensures { result.now ≡ config_words number ++ line_feed ∷ codes "config " }

@@ -1,4 +1,4 @@
-//! What keeps rows: memory, and stores that are files.
+//! Storage of rows: memory, and stores that are files.
 ghost use Rattle.std.specs.Prelude.{◌≡◌, false, ℕ, List, [], length, map, Option, Some, IfOk, IfSome, OnOk};
 ghost use Rattle.dq_tables.specs.declared.row.Row.{Row};
 ghost use Rattle.dq_core.specs.Looking.{LeavesAlone};
@@ -23,7 +23,7 @@ pub enum OpenError {
 #[derive(Clone, Copy, Debug, PartialEq, Eq)]
 pub struct Unclosed;
 
-/// What keeps rows.
+/// Storage of rows.
 pub trait Stores {
     /// Rows in memory.
     type Memory: Tables + Drop;
@@ -42,7 +42,7 @@ pub trait Stores {
     /// where they are known.
     ghost copied: { Self → List ℕ → List (List ℕ) → Option (List Row) };
 
-    /// What there is once a store of these rows is closed.
+    /// The state once a store of these rows is closed.
     ghost closed: { Self → List Row → Type 0 };
 
     /// No rows, kept in memory.

@@ -1,4 +1,4 @@
--- What the words of a command line ask for.
+-- The command that the words of a command line ask for.
 use Rattle.std.specs.Prelude.{ℕ, Bool, ◌^◌, ◌&&◌, nat_lt, if◌then◌else◌, List, [], ◌∷◌, length, map, codes}
 use Rattle.std.specs.Prelude.{Option, Some, None, option_map, option_and_then, unwrap_or}
 use Rattle.std.specs.Option.{option_copied}
@@ -141,7 +141,7 @@ seconds_told text = positive_below (2 ^ 32) text
 abbrev pub number_told : List ℕ → Option ℕ
 number_told text = number_below (2 ^ 32) text
 
--- What an option tells, if it is there. None where it is there and tells nothing.
+-- The value that an option tells, if it is there. None if it is there and tells nothing.
 abbrev pub told_if_given : {X : Type 0} → (List ℕ → Option X) → Option (List ℕ) → Option (Option X)
 told_if_given told None = Some None
 told_if_given told (Some text) = option_map Some (told text)
@@ -291,8 +291,8 @@ abbrev pub command_if : Kinds → Option Command → Option Command
 command_if [] asked = asked
 command_if (kind ∷ kinds) asked = None
 
--- What a list of words asks for, or None where clap does not take them, where they name both a new
--- store and one that is there, or a number that is out of its range.
+-- The command that a list of words asks for, or None if clap does not take them, or if they name both a new store and
+-- one that is there, or a number that is out of its range.
 unfoldable pub command_asked : List (List ℕ) → Option Command
 command_asked words = command_if (fault_of command (line_of words))
     (command_of (subcommand_of command (line_of words)))

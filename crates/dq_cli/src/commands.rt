@@ -20,13 +20,13 @@ macro_rules! versioned {
 /// The version of the program.
 pub const VERSION: &str = versioned!("", "");
 
-/// What the program is, with which its help begins.
+/// The description of the program, with which its help begins.
 const ABOUT: &str = versioned!(
     "Newtiron ",
     ", a DICOM server for metadata, of several hospitals"
 );
 
-/// What is said of the option that names the configuration.
+/// The help of the option that names the configuration.
 const CONFIGURATION: &str = "The configuration [default: the one that is built in]";
 
 /// An option that takes a value.

@@ -1,6 +1,6 @@
-//! What help says of captures, of their replies, and of what is told on standard error.
+//! Help on captures, on their replies, and on the messages on standard error.
 
-/// What a capture is, and what its replies are.
+/// The help on captures and their replies.
 pub(crate) const CAPTURES: &str = "\
 A capture is text, an event a line; empty lines and those that begin with # are skipped:
   open N              connection N is opened; the numbers rise
@@ -16,7 +16,7 @@ Each event has one reply: `N HEX` or `N -`, with `close` behind it where the con
   refused 2, 3        an attribute is missing, the ID is taken
   refused 4, 5, 6     too many entries, no such entry, no such institution";
 
-/// What is told on standard error, and the exit statuses.
+/// The help on the messages on standard error and the exit statuses.
 pub(crate) const STATUSES: &str = "\
 Exit status, and what is told on standard error (serve and check have no capture, loopback no
 store, migrate, copy and export neither a capture nor a configuration):

@@ -1,4 +1,4 @@
-//! What the options of a subcommand ask for, and what is wrong with those that are not taken.
+//! The requests in the options of a subcommand, and the errors of those that are not taken.
 ghost use Rattle.std.specs.Prelude.{◌≡◌, map, option_map, option_and_then, codes, IfOk};
 ghost use Rattle.std.specs.Option.{option_copied};
 ghost use Rattle.std.specs.Result.{result_ok};
@@ -242,7 +242,7 @@ fn kind_in(matches: &ArgMatches) -> Result<Option<RowKind>, Misuse>
     }
 }
 
-/// What is asked for of a capture.
+/// Returns the request for a capture.
 fn capture_command_in<'a>(matches: &ArgMatches<'a>) -> Result<CaptureCommand<'a>, Misuse>
     ensures { option_map request_asked (result_ok result)
         ≡ subcommand_request (subcommand_rows_of matches.now) }
@@ -260,7 +260,7 @@ fn capture_command_in<'a>(matches: &ArgMatches<'a>) -> Result<CaptureCommand<'a>
     })
 }
 
-/// What the options of `serve` ask for.
+/// Returns the request in the options of `serve`.
 fn service_in<'a>(matches: &ArgMatches<'a>) -> Result<Service<'a>, Misuse>
     ensures { option_map serving_in (result_ok result)
         ≡ serving_of (subcommand_rows_of matches.now) }
@@ -338,7 +338,7 @@ fn export_in<'a>(matches: &ArgMatches<'a>) -> Result<Export<'a>, Misuse>
     }
 }
 
-/// What the subcommand asks for with its options, a replay where there is none.
+/// Returns the request of the subcommand with its options, a replay if there is no subcommand.
 pub(crate) fn parsed_command_in<'a>(
     matches: &ArgMatches<'a>,
     only: Vec<&'a str>,
@@ -365,7 +365,7 @@ pub(crate) fn parsed_command_in<'a>(
     }
 }
 
-/// What is wrong with options that are not taken, in words.
+/// Returns the error of options that are not taken, in words.
 pub(crate) fn reproach(misuse: Misuse) -> (ErrorKind, &'static str) {
     match misuse {
         Misuse::TwoStores => (

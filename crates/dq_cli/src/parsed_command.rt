@@ -1,11 +1,11 @@
-//! What a command line asks for.
+//! The command that a command line asks for.
 
-/// What is done with a capture.
+/// A task over a capture.
 #[derive(Clone, Copy, Debug, PartialEq, Eq)]
 pub enum Task {
     /// Its replies are printed.
     Replay,
-    /// What is kept after it is counted.
+    /// The rows that are kept after it are counted.
     Report,
 }
 
@@ -20,8 +20,8 @@ pub enum Keeper<'a> {
     Found(&'a str),
 }
 
-/// What is asked for of a capture: a task, the configuration's file if one is named, and where the
-/// rows are kept.
+/// The request for a capture: a task, the configuration's file if one is named, and where the rows
+/// are kept.
 #[derive(Clone, Copy)]
 pub struct CaptureCommand<'a> {
     pub task: Task,
@@ -41,11 +41,11 @@ pub struct Web<'a> {
     pub peer_connections: u32,
 }
 
-/// What `serve` is asked for: the port and the address where connections come in; for how many
-/// seconds ARTIM runs (PS3.8 section 9.1.5), 0 for ever; after how many seconds of silence a
-/// connection counts as ended, if it does; how many may come of one address, 0 any number; whether
-/// what becomes of them is logged, and the file of the log if one is named; the path of the console
-/// and the web front, if they are there; after how many turns the service ends, if it ends; the
+/// The request of `serve`: the port and the address where connections come in; for how many seconds
+/// ARTIM runs (PS3.8 section 9.1.5), 0 for ever; after how many seconds of silence a connection
+/// counts as ended, if it does; how many may come from one address, 0 any number; whether what
+/// becomes of them is logged, and the file of the log if one is named; the path of the console and
+/// the web front, if they are there; after how many turns the service ends, if it ends; the
 /// configuration's file if one is named, and where the rows are kept.
 #[derive(Clone, Copy)]
 pub struct Service<'a> {
@@ -105,7 +105,7 @@ pub struct Export<'a> {
     pub kind: Option<RowKind>,
 }
 
-/// What a command line asks for.
+/// The command that a command line asks for.
 #[derive(Drop)]
 pub enum ParsedCommand<'a> {
     /// A task over a capture.

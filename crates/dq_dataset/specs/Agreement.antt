@@ -1,4 +1,4 @@
--- What is lent of octets, beside the grammar: one for each element, and then the first fault.
+-- The elements lent of octets, compared with the grammar: one for each element, and then the first fault.
 use Rattle.std.specs.Prelude.{◌≡◌, List, [], ◌∷◌, ◌++◌, ℕ, Option, None, Result, Ok, Err, ◌⊎◌}
 use Rattle.dq_vr.specs.declared.Tag.{Tag}
 use Rattle.dq_vr.specs.Dictionary.{known_vr}

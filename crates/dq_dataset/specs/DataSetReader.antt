@@ -136,8 +136,8 @@ item_header_at octets = do
   whole ← check (fits_enclosing n.0 n.1) Truncated
   Ok n
 
--- What is left after the end that stands here: the octets' own end, or, where the length is
--- undefined, (FFFE,E00D) or (FFFE,E0DD) with length 0.
+-- The rest after the end at the front of the octets: the octets' own end, or, if the length is undefined, (FFFE,E00D)
+-- or (FFFE,E0DD) with length 0.
 unfoldable pub end_at : Bound → ℕ → List ℕ → Result (Option (List ℕ)) ReadFault
 end_at Filled end octets = Ok (if length octets == 0 then Some octets else None)
 end_at Delimited end octets = do
@@ -195,7 +195,7 @@ elements_by next bound syntax levels last octets = do
   first ← element_by next bound syntax levels last octets
   elements_after next bound syntax levels first.0 first.1
 
--- What an item holds.
+-- The content of an item.
 unfoldable pub content_by : Readers → Syntax → ℕ → Option ℕ → List ℕ
     → Result (List Element × List ℕ) ReadFault
 content_by next syntax levels (Some n) octets = do

@@ -1,4 +1,4 @@
--- What is cut out of a data set, and what is merged from two.
+-- Cutting elements out of a data set, and merging two data sets.
 use Rattle.std.specs.Prelude.{List, [], ◌∷◌, ◌++◌, Bool, filter}
 use Rattle.std.specs.List.{list_any}
 use Rattle.dq_vr.specs.declared.Tag.{Tag}

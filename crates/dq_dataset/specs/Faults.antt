@@ -115,7 +115,7 @@ ends_here Delimited element octets =
     && ((((tag_in octets).group == 0xFFFE) && ((tag_in octets).element == element))
     && (number_in w32 4 octets == 0))
 
--- What may be faulty in a value: its octets, or, where the length is undefined, all that follows.
+-- The part that may be faulty in a value: its octets, or, if the length is undefined, all that follows.
 abbrev pub HasReach : Option ℕ → List ℕ → List ℕ → Type 0
 HasReach None value rest = rest ≡ []
 HasReach (Some n) value rest = length value ≡ n

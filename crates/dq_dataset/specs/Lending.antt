@@ -19,7 +19,7 @@ pub record Spelled : Type 0 where
   pub syntax : Syntax
   pub octets : List ℕ
 
--- What is left after what was read.
+-- The rest after the part that was read.
 abbrev pub rest_of : {X : Type 0} → Result (X × List ℕ) ReadFault → Result (List ℕ) ReadFault
 rest_of read = read >>= λ x. Ok x.1
 

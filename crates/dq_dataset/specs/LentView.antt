@@ -1,4 +1,4 @@
--- What is lent, as the definitions see it.
+-- The lent elements, as the definitions see them.
 use Rattle.std.specs.Prelude.{Result, Ok, Err}
 use Rattle.dq_dataset.specs.declared.fault.ReadFault.{ReadFault}
 use Rattle.dq_dataset.specs.declared.lending.Lent.{Lent}

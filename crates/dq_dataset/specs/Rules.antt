@@ -25,10 +25,9 @@ agrees known spelled =
     if is_sequence known then is_sequence (Some spelled) || is_unknown (Some spelled)
     else (is_none known || not (is_sequence (Some spelled)))
 
--- What the value of a tag holds, by the dictionary's VR, the spelled one and the length. After SQ
--- stand items in the same syntax. Items in Implicit stand after UN for a known sequence and after
--- UN of undefined length, and where no VR is spelled, so also for a known sequence and for an
--- unknown tag of undefined length. No other length may be undefined.
+-- The content of the value of a tag, by the dictionary's VR, the spelled one and the length. SQ is followed by items in
+-- the same syntax. Items in Implicit follow UN for a known sequence and UN of undefined length, and also, if no VR is
+-- spelled, a known sequence and an unknown tag of undefined length. No other length may be undefined.
 unfoldable pub content_of : Option Vr → Option Vr → Option ℕ → Result Content ReadFault
 content_of known spelled (Some n) =
     if is_sequence spelled then Ok (Sequence Explicit (Some n))

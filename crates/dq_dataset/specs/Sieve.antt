@@ -1,5 +1,5 @@
--- What a list of tags leaves of a data set (PS3.5 section 7.1), said of all its octets, however
--- they come.
+-- The elements that a list of tags leaves of a data set (PS3.5 section 7.1), defined on all its octets, however they
+-- come.
 use Rattle.std.specs.Prelude.{◌≡◌, ℕ, Bool, not, List, length, nat_lt, if◌then◌else◌, ◌⊎◌}
 use Rattle.std.specs.List.{list_any}
 use Rattle.dq_vr.specs.declared.Tag.{Tag}
@@ -20,7 +20,7 @@ use Rattle.dq_dataset.specs.Editing.{is_listed, cut_out}
 abbrev pub has_other : List Tag → ElementList → Bool
 has_other tags d = list_any (λ (e : Element). not (is_listed tags e)) (elements_of d)
 
--- What is kept has at most so many octets, as the canonical Explicit spelling has them.
+-- The most octets that the kept elements may have in the canonical Explicit spelling.
 abbrev pub kept_limit : ℕ
 kept_limit = 67108864
 

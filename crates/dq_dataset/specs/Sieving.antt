@@ -31,12 +31,12 @@ abbrev pub tag_is_listed : List Tag → Tag → Bool
 tag_is_listed tags tag =
     list_any (λ (t : Tag). (tag.group == t.group) && (tag.element == t.element)) tags
 
--- What is answered where the elements that were kept passed the limit, and where they did not.
+-- The answer if the elements that were kept passed the limit, and if they did not.
 abbrev pub sifted_or_too_long : Bool → List Element → Bool → Sifted
 sifted_or_too_long true kept other = Large
 sifted_or_too_long false kept other = sifted_of (as_elements kept) other
 
--- What the octets after the tag last add to the elements that are kept.
+-- The effect of the octets after the tag last on the elements that are kept.
 abbrev pub SiftsFrom : Syntax → List Tag → Option Tag → Bool → List Element → Bool → List ℕ → Sifted
     → Type 0
 SiftsFrom syntax tags last large kept other octets answer =
@@ -49,7 +49,7 @@ abbrev pub OuterSifts : List Tag → Outer → List ℕ → Sifted → Type 0
 OuterSifts tags outer octets answer =
     SiftsFrom outer.syntax tags outer.last outer.large outer.kept.items outer.other octets answer
 
--- What is held is within the limit. Of elements that passed it nothing is held.
+-- The elements that are held are within the limit. Of elements that passed it nothing is held.
 abbrev pub KeepsWithinLimit : Bool → List Element → Type 0
 KeepsWithinLimit true held = held ≡ []
 KeepsWithinLimit false held = is_over_limit (as_elements held) ≡ false
@@ -99,7 +99,7 @@ IsStage outer (Past walk) = IsWalk walk
 IsStage outer (Into walk came) = IsWalk walk
 IsStage outer (Stopped fault missing) = Unit {0}
 
--- What was made of a sieve by the octets taken.
+-- The state that a sieve reaches by the octets taken.
 pub record SieveGoesOn (tags : List Tag) (outer : Outer) (stage : Stage) (taken : List ℕ)
     (next : Outer) (then : Stage) : Type 0 where
   pub sound : IsStage next then
@@ -129,12 +129,12 @@ pub record SieveAfter (syntax : Syntax) (tags : List Tag) (octets : List ℕ)
   pub tags_are : sieve.0 ≡ tags
   pub after : StateAfter syntax tags octets sieve.1
 
--- What is true of every sieve: it was fed some octets, or memory ran out.
+-- The invariant of every sieve: it was fed some octets, or memory ran out.
 abbrev pub IsSieve : List Tag → SieveState → Type 0
 IsSieve tags (Sifting outer stage) = (octets : List ℕ) × HasFed outer.syntax tags octets outer stage
 IsSieve tags Spent = Unit {0}
 
--- What a walk past a value, and one into a value, is followed by.
+-- The stages that follow a walk past a value, and one into a value.
 abbrev pub PastBy : WalkStep → Stage → Type 0
 PastBy walked stage =
     (outer : Outer) (tags : List Tag) (octets : List ℕ) (answer : Sifted)
@@ -150,7 +150,7 @@ pub record IntoBy (outer : Outer) (walked : WalkStep) (came : List ℕ) (next : 
       → StageSifts tags next then octets answer
       → SiftsOn (WalkedLeads walked) (FollowsInto tags outer came answer) octets answer
 
--- What is held of elements, by whether they passed the limit.
+-- The elements that are held, by whether they passed the limit.
 abbrev pub kept_unless_over : Bool → List Element → List Element
 kept_unless_over true es = []
 kept_unless_over false es = es
@@ -163,7 +163,7 @@ pub record KeepsElements (outer : Outer) (es : List Element) (next : Outer) : Ty
   pub large : next.large ≡ (outer.large || is_over_limit (as_elements (outer.kept.items ++ es)))
   pub kept : next.kept.items ≡ kept_unless_over next.large (outer.kept.items ++ es)
 
--- What octets that end at a stage are: the data set that was kept, or faulty.
+-- The result of octets that end at a stage: the data set that was kept, or a fault.
 abbrev pub EndsBy : Stage → Option ReadFault → Type 0
 EndsBy stage None =
     (tags : List Tag) (outer : Outer) (octets : List ℕ) (answer : Sifted)

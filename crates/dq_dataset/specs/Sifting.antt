@@ -217,7 +217,7 @@ pub record HasEnd (place : Cursor) (front : List ℕ) : Type 0 where
   pub ends : Finishes place front
   pub reach : (reach_of place ≡ Within (until_of (reach_of place))) ⊎ (reach_of place ≡ Endless)
 
--- What the octets that came are: not yet a header, an end, a header, or a fault.
+-- The meaning of the octets that came: not yet a header, an end, a header, or a fault.
 abbrev pub ItemMet : Bound → List ℕ → HeaderFound (Option ℕ) → Type 0
 ItemMet bound front Part = item_front_at front ≡ Err Truncated
 ItemMet bound front End = (rest : List ℕ) × (end_at bound 0xE0DD front ≡ Ok (Some rest))
@@ -236,7 +236,7 @@ ElementMet syntax levels last bound front (Bad fault) =
     ((rest : List ℕ) → end_at bound 0xE00D front ≡ Ok (Some rest) → ⊥)
     × (front_at syntax levels last front ≡ Err fault) × (fault ≢ Truncated)
 
--- What was made of a walk by the octets taken.
+-- The step that a walk reaches by the octets taken.
 pub record LeadsOn (walk : Walk) (taken : List ℕ) (walked : WalkStep) : Type 0 where
   pub sound : IsWalked walked
   pub leads : (octets : List ℕ) (end : Option ReadFault) → WalkedLeads walked octets end

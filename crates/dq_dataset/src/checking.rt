@@ -85,7 +85,7 @@ fn elements_end<'a>(level: Level, octets: &'a [u8]) -> Result<&'a [u8], ReadFaul
     }
 }
 
-/// What is left after an item on the level, up to where the item's own length says.
+/// Returns the rest after an item on the level, which goes up to where the item's own length says.
 #[cycle(checking)]
 #[tactic(auto, unfolding(crate::specs::DataSetReader::content_by))]
 fn content_end<'a>(

@@ -233,9 +233,9 @@ fn all_of(alloc: Global, octets: &[u8], syntax: Syntax) -> Result<DataSet, ReadF
 /// The data set that the octets spell, all of them (PS3.5 section 7). Octets that spell none have a
 /// first fault.
 pub fn read(alloc: Global, octets: &[u8], syntax: Syntax) -> Result<DataSet, ReadFault>
-    // What is read is spelled so.
+    // A data set that is read is spelled so.
     ensures found { IfOk result (λ d. IsSpelled syntax octets.now d) }
-    // What is spelled so is read, unless memory runs out.
+    // A data set that is spelled so is read, unless memory runs out.
     ensures only { (d : ElementList) → IsSpelled syntax octets.now d
         → GivesOrReadFault (λ d. d) result (Ok d) }
     // An error is want of memory, or exactly the first fault.

@@ -1,4 +1,4 @@
-//! What is cut out of a data set, and what is merged from two.
+//! Cutting elements out of a data set, and merging two data sets.
 ghost use Rattle.std.specs.Prelude.{◌≡◌, ◌+◌, ◌<◌, [], ◌∷◌, drop, length, IfOk, IfNone, IfSome};
 ghost use Rattle.dq_dataset.specs.View.{as_elements};
 ghost use Rattle.dq_dataset.specs.Facts.{IsDataSet};

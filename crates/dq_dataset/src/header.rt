@@ -31,7 +31,7 @@ pub struct Level {
     pub levels: u8,
 }
 
-/// What follows a header: so many octets, or items in a syntax, up to an end of their own where
+/// The content after a header: so many octets, or items in a syntax, up to an end of their own if
 /// there is no length.
 #[derive(Clone, Copy, Debug, PartialEq, Eq)]
 pub enum Content {
@@ -337,7 +337,7 @@ pub fn item_header_at(octets: &[u8]) -> Result<(Option<u32>, &[u8]), ReadFault>
     Ok((length, rest))
 }
 
-/// What is left after the end that stands here.
+/// Returns the rest after the end at the front of the octets.
 #[tactic(auto, unfolding(crate::specs::DataSetReader::end_at))]
 pub fn end_at(bound: Bound, end: u16, octets: &[u8]) -> Result<Option<&[u8]>, ReadFault>
     ensures value { Answers option_copied result (end_at bound end octets.now) }

@@ -25,22 +25,22 @@ pub fn spelling_law()
     // No octets spell two data sets.
     ensures one { (syntax : Syntax) (octets : List ℕ) (a b : ElementList)
         → IsSpelled syntax octets a → IsSpelled syntax octets b → a ≡ b }
-    // What is spelled has the facts of every data set.
+    // A data set that is spelled has the facts of every data set.
     ensures facts { (syntax : Syntax) (octets : List ℕ) (d : ElementList)
         → IsSpelled syntax octets d → IsDataSet d }
-    // What is spelled is read, so octets with a fault spell nothing.
+    // A data set that is spelled is read, so octets with a fault spell nothing.
     ensures read { (syntax : Syntax) (octets : List ℕ) (d : ElementList) → IsSpelled syntax octets d
         → data_set_read syntax octets ≡ Ok d }
-    // What is read is spelled.
+    // A data set that is read is spelled.
     ensures spelled { (syntax : Syntax) (octets : List ℕ) (d : ElementList) → AreOctets octets
         → data_set_read syntax octets ≡ Ok d → IsSpelled syntax octets d }
-    // What fewer than 2^31 octets spell has a canonical spelling, in both syntaxes.
+    // A data set that fewer than 2^31 octets spell has a canonical spelling, in both syntaxes.
     ensures lengths { (from to : Syntax) (octets : List ℕ) (d : ElementList)
         → IsSpelled from octets d → length octets < 2 ^ 31 → HasLengths to d }
 {}
 
-/// What is written is read back: in Explicit always, and in Implicit where the dictionary has the
-/// tag of each sequence.
+/// A data set that is written is read back: in Explicit always, and in Implicit if the dictionary
+/// has the tag of each sequence.
 pub fn written_law()
     ensures spelled { (syntax : Syntax) (d : ElementList) → IsDataSet d → HasLengths syntax d
         → IsReadBack syntax d → IsSpelled syntax (canonical syntax d) d }
@@ -89,8 +89,8 @@ pub fn lending_law()
         → FaultAfter syntax None octets d fault → IsFaulty syntax octets fault }
 {}
 
-/// What is cut out of a data set, and what is merged from two, is a data set, and has lengths that
-/// can be written.
+/// The elements cut out of a data set, and those merged from two, are a data set, and have lengths
+/// that can be written.
 pub fn editing_law()
     ensures cut { (tags : List Tag) (d : ElementList) → IsDataSet d → IsDataSet (cut_out tags d) }
     ensures cut_lengths { (syntax : Syntax) (tags : List Tag) (d : ElementList)

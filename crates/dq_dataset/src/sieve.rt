@@ -27,10 +27,10 @@ use std::marker::Model;
 use std::mem;
 use walk::{HeaderFound, Walk, WalkStep, element_met};
 
-/// What a sieve keeps has at most so many octets, as the canonical Explicit spelling has them.
+/// The most octets that the elements kept by a sieve may have in the canonical Explicit spelling.
 pub const KEPT_LIMIT: u32 = 67_108_864;
 
-/// What a list of tags leaves of a data set.
+/// The elements that a list of tags leaves of a data set.
 #[derive(Drop)]
 pub enum Sifted {
     /// The elements whose tags are listed, and whether there was another. A group length counts as
@@ -70,7 +70,7 @@ pub(crate) enum Stage {
     Stopped(ReadFault, usize),
 }
 
-/// What a sieve holds between two pieces.
+/// The state of a sieve between two pieces.
 #[derive(Drop)]
 pub(crate) enum SieveState {
     Sifting(Outer, Stage),
@@ -149,9 +149,9 @@ impl Sieve {
         }
     }
 
-    /// What the tags leave of the data set that all octets spell which the sieve was fed, however
-    /// they were cut, or their first fault. It takes no memory. Where memory ran out before, it is
-    /// the fault `NoMemory`.
+    /// Returns the elements that the tags leave of the data set spelled by all octets that the
+    /// sieve was fed, however they were cut, or the first fault of these octets. It takes no
+    /// memory. If memory ran out before, it is the fault `NoMemory`.
     pub fn finish(self) -> Sifted
         ensures sifted { (syntax : Syntax) (tags : List Tag) (fed : List ℕ)
             → SieveAfter syntax tags fed self → IsSifted syntax tags fed result }
@@ -328,7 +328,7 @@ fn is_discarded(large: bool, tag: Tag, content: Content) -> bool
     }
 }
 
-/// What an octet adds to the header of an element.
+/// Adds an octet to the header of an element.
 fn came(
     alloc: Global,
     tags: &[Tag],

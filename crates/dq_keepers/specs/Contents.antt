@@ -1,4 +1,4 @@
--- What the files of a store hold, and what is found there.
+-- The contents of the files of a store, and what is found there.
 use Rattle.std.specs.Prelude.{List}
 use Rattle.sqlite_disk.specs.declared.Disk.{Ghosts}
 use Rattle.sqlite_store.specs.declared.store.FileStore.{FileStore}

@@ -27,8 +27,8 @@ use sqlite::{Connection, Error, FileFrom, FileStore, Files, Start, Wary};
 use sqlite_disk::Disk;
 use std::alloc::Global;
 
-/// What the two files of a store at a path hold when they are opened. A torn write may leave any octets
-/// in them.
+/// The contents of the two files of a store at a path when they are opened. A torn write may leave
+/// any octets in them.
 pub trait FilesAt: Start {
     /// The path.
     ghost path: { List ℕ };

@@ -1,4 +1,4 @@
-//! What is at a path, and what a terminal is told of the store there.
+//! Files at a path, and the messages about the store there on a terminal.
 use crate::copy_fault::CopyFault;
 use dq_sql::StoreFault;
 use std::alloc::{AllocError, Global};

@@ -10,8 +10,8 @@ o >>= f = option_and_then f o
 abbrev pub only_if : {A : Type 0} → Bool → A → Option A
 only_if b x = if b then Some x else None
 
--- What a reader returned, seen by view, is what was to be read. `Tells` says what each of its
--- errors tells of that.
+-- The value that a reader returned, seen by view, is the one that was to be read. `Tells` says what each of its errors
+-- tells of that.
 abbrev pub Gives : {X Y E : Type 0} → (E → Option Y → Type 0) → (X → Y) → Result X E → Option Y
     → Type 0
 Gives Tells view (Ok x) read = read ≡ Some (view x)

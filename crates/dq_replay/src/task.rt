@@ -1,4 +1,4 @@
-//! What the program does: it replays a history, or reports what is kept after it.
+//! The program's tasks: it replays a history, or reports the rows that are kept after it.
 ghost use Rattle.std.specs.Prelude.{◌≡◌, ◌++◌, [], codes, IsTrue, IfOk, OnOk, string_bytes};
 ghost use Rattle.std.specs.Fmt.{decimal};
 ghost use Rattle.std.specs.Io.KnownBytes.{Appends};
@@ -15,7 +15,7 @@ use dq_list::Listed;
 use dq_tables::{Kind, PlainTables, Tables};
 use std::alloc::{AllocError, Global};
 
-/// What is done with a history.
+/// A task over a history.
 #[derive(Clone, Copy, Debug, PartialEq, Eq)]
 pub(crate) enum Task {
     Replay,
@@ -32,7 +32,7 @@ impl Task {
     }
 }
 
-/// What the words of the command line ask for: a task, and the path of a configuration.
+/// The request in the words of the command line: a task, and the path of a configuration.
 #[derive(Clone, Copy, Debug, PartialEq, Eq)]
 pub(crate) struct Request<'a> {
     pub(crate) task: Task,

@@ -1,4 +1,4 @@
-//! What the program needs of the machine.
+//! The parts of the machine that the program needs.
 use dq_app::{Host, OpenError, Stores, Unclosed};
 use dq_keepers::{
     CopyFault, RowsInFile, RowsInMemory, back_up, close_store, copy_store, create_store,

@@ -122,7 +122,8 @@ impl Disk for MemoryFile {
         Ok(())
     }
 
-    // What is read is what was written, so it has the digest that is asked for.
+    // The bytes that are read are those that were written, so they have the digest that is asked
+    // for.
     fn read_checked(&mut self, _key: u64, _want: u64, at: usize, buf: &mut [u8]) -> io::Result<()> {
         self.read_at(at, buf)
     }

@@ -1,5 +1,5 @@
-//! What a data set costs: the processor's time of reading it, of writing it, and of a plain copy of
-//! its octets.
+//! The cost of a data set: the processor's time of reading it, of writing it, and of a plain copy
+//! of its octets.
 ghost use Rattle.std.specs.Prelude.{◌<◌, ◌^◌, length};
 
 use crate::stop::Stop;
@@ -7,7 +7,7 @@ use dq_dataset::{Elements, Syntax, laws, read, write};
 use std::alloc::{AllocError, Global};
 use std::time::{CpuClock, Duration};
 
-/// What the octets of a sample spell, in Explicit.
+/// The elements that the octets of a sample spell, in Explicit.
 #[derive(Clone, Copy, Debug, PartialEq, Eq)]
 pub(crate) enum Shape {
     /// Elements of 64 octets each.
@@ -69,7 +69,7 @@ fn items(alloc: Global, item: &[u8], count: u32) -> Result<Vec<u8>, AllocError> 
     Ok(octets)
 }
 
-/// What follows the head, with its length of four octets between them.
+/// Returns the head and the octets that follow it, with their length of four octets between them.
 fn behind(alloc: Global, head: &[u8], octets: &[u8]) -> Result<Vec<u8>, AllocError> {
     let length = u32::try_from(octets.len()).unwrap_or(u32::MAX);
     let mut all = Vec::from_slice(alloc, head)?;

@@ -16,7 +16,7 @@ use std::{env, io};
 use stop::Stop;
 use trial::run_trials;
 
-/// What the words ask for, with a number of calls.
+/// The request in the words, with a number of calls.
 #[derive(Clone, Copy, PartialEq, Eq)]
 enum Request {
     Cost {

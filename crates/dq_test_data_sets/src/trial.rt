@@ -92,8 +92,8 @@ fn syntax_of(name: &str) -> Option<Syntax> {
     }
 }
 
-/// What the words `LIST FIRST EACH` ask for: a list of tags, the octets of the first piece, and those of
-/// each further one.
+/// Returns the request in the words `LIST FIRST EACH`: a list of tags, the octets of the first
+/// piece, and those of each further one.
 fn sifting_of(words: &str, syntax: Syntax) -> Option<Sifting> {
     let (name, lengths) = words.split_once(' ')?;
     let (first, each) = lengths.split_once(' ')?;
@@ -105,8 +105,8 @@ fn sifting_of(words: &str, syntax: Syntax) -> Option<Sifting> {
     })
 }
 
-/// What octets are answered with that stand behind words: `implicit` or `explicit`, and before it
-/// `sift LIST FIRST EACH` where they are to be sifted, or `json`; or `tag` before a name.
+/// Returns the answer to the octets that follow the words: `implicit` or `explicit`, and before it
+/// `sift LIST FIRST EACH` if they are to be sifted, or `json`; or `tag` before a name.
 fn answer_by(alloc: Global, words: &str, octets: &[u8]) -> Result<Option<String>, AllocError>
     requires { length octets.now < 2 ^ 31 }
 {

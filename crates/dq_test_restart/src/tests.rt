@@ -165,7 +165,7 @@ fn configured(alloc: Global, text: &str) -> Result<Config, Fail> {
     Ok(Config::read(alloc, text)?)
 }
 
-/// What a history comes to over tables.
+/// Returns the outcome of a history over tables.
 fn played<T: Tables + Drop>(
     alloc: Global,
     tables: T,
@@ -342,8 +342,8 @@ fn files_of<S: OfFiles>(tables: SqlTables<S>) -> Files<File> {
     tables.into_connection().into_store().closed()
 }
 
-/// What a crash leaves of what was written since the last sync. Each is an outcome of the model that
-/// the program opens its files under.
+/// The part of the octets written since the last sync that a crash leaves. Each is an outcome of
+/// the model that the program opens its files under.
 #[derive(Clone, Copy)]
 enum Remains {
     /// Nothing.
@@ -445,7 +445,7 @@ fn file_with(alloc: Global, octets: &[u8]) -> Option<File> {
     Some(file)
 }
 
-/// What a crash leaves of a file.
+/// Returns what a crash leaves of a file.
 fn crashed(alloc: Global, mut file: File, left: Remains) -> Option<File> {
     let written = Vec::from_slice(alloc, file.inner().bytes()).ok()?;
     file.crash();
@@ -476,8 +476,8 @@ fn adopted<S: OfFiles>(
     }
 }
 
-/// What came of a run: whether a file stopped in it, how many instances were answered as kept, and
-/// how many a crash leaves.
+/// The outcome of a run: whether a file stopped in it, how many instances were answered as kept,
+/// and how many a crash leaves.
 #[derive(Clone, Copy)]
 struct Run {
     is_stopped: bool,

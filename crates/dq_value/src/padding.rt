@@ -5,7 +5,7 @@ ghost use Rattle.dq_value.specs.Trimming.{is_padded, ignores_leading_spaces, is_
 
 use dq_vr::Vr;
 
-/// What does not count at the end of a value (PS3.5 section 6.2).
+/// The padding that does not count at the end of a value (PS3.5 section 6.2).
 #[derive(Clone, Copy)]
 pub(crate) enum Padding {
     /// Spaces, 20H.

@@ -12,7 +12,7 @@ const SECOND: u64 = 1_000_000;
 
 /// The first and the last microsecond of the day that a TM value names (PS3.5 section 6.2): HH,
 /// HHMM, HHMMSS or HHMMSS.F with one to six digits F, hours to 23, minutes to 59, seconds to 60.
-/// What is left out at the end may be anything: 0900 is the whole minute.
+/// Components left out at the end may be anything: 0900 is the whole minute.
 #[tactic(auto, unfolding(crate::specs::Time::span, crate::specs::Time::hour_span, crate::specs::Time::minute_span, crate::specs::Time::second_span))]
 pub fn time_of(octets: &[u8]) -> Option<(u64, u64)>
     ensures { result ≡ span octets.now }

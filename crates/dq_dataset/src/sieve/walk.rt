@@ -49,7 +49,7 @@ pub struct Walk {
     pub place: Cursor,
     /// The places around it, the innermost last.
     pub around: Vec<Cursor>,
-    /// What came of a header.
+    /// The octets of a header that came.
     pub front: Vec<u8>,
 }
 
@@ -64,7 +64,7 @@ pub enum WalkStep {
     Failed(ReadFault, usize),
 }
 
-/// What the octets that came of a header are.
+/// The meaning of the octets that came of a header.
 pub enum HeaderFound<H> {
     /// Not yet a header.
     Part,
@@ -157,7 +157,7 @@ impl Cursor {
     }
 }
 
-/// What the octets that came where an item is due are.
+/// Returns the meaning of the octets that came where an item is due.
 fn item_met(bound: Bound, front: &[u8]) -> HeaderFound<Option<u32>>
     ensures met { ItemMet bound front.now result }
     ensures octets { AreOctets front.now }
@@ -174,7 +174,7 @@ fn item_met(bound: Bound, front: &[u8]) -> HeaderFound<Option<u32>>
     }
 }
 
-/// What the octets that came where an element is due are.
+/// Returns the meaning of the octets that came where an element is due.
 pub fn element_met(
     syntax: Syntax,
     levels: u8,
@@ -305,7 +305,7 @@ impl Walk {
         Ok(self.settled())
     }
 
-    /// What an octet adds to the header of an item.
+    /// Returns the step of the walk after one more octet of the header of an item.
     fn item_came(self, syntax: Syntax, levels: u8, reach: Reach) -> Result<WalkStep, AllocError>
         requires come { HasCome self }
         requires place { self.place ≡ Cursor.InItems syntax levels reach }
@@ -330,7 +330,7 @@ impl Walk {
         }
     }
 
-    /// What an octet adds to the header of an element.
+    /// Returns the step of the walk after one more octet of the header of an element.
     fn element_came(
         self,
         syntax: Syntax,

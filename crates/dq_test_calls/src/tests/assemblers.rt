@@ -61,7 +61,7 @@ fn take_zeros(alloc: Global, assembler: &mut Assembler, fragments: usize) -> Res
     Ok(())
 }
 
-/// What an assembler makes of its last fragment, of so many octets of zero.
+/// Returns the message that an assembler makes of its last fragment, of so many octets of zero.
 fn whole(alloc: Global, assembler: &mut Assembler, length: usize) -> Result<Message, Fail> {
     let last = data(zeros(alloc, length)?, true);
     Ok(assembler.take(&last)?.ok_or("the message is whole")?)
@@ -74,7 +74,8 @@ fn with_zeros(alloc: Global, code: u16, length: usize) -> Result<Message, Fail> 
     whole(alloc, &mut assembler, length % 0x1_0000)
 }
 
-/// What is held of a data set of zero octets: so many, or nothing, since they spell none.
+/// Returns whether a data set of zero octets is held as expected: so many of them, or nothing,
+/// since they spell no data set.
 fn is_held(message: &Message, length: usize) -> bool {
     match &message.body {
         Body::Octets(octets) => !message.over && octets.len() == length,

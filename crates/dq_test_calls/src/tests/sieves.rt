@@ -13,7 +13,7 @@ fn feed_zeros(alloc: Global, sieve: &mut Sieve, length: u32) -> Result<(), Alloc
     sieve.feed(piece.split_at((length % 0x10_0000) as usize).0)
 }
 
-/// What is kept of a Patient's Name in Implicit, of which so many octets are missing.
+/// Returns the elements kept of a Patient's Name in Implicit, of which so many octets are missing.
 pub(super) fn sifted_name(alloc: Global, length: u32, missing: u32) -> Result<Sifted, AllocError> {
     let mut sieve = Sieve::new(alloc, Syntax::Implicit, &KEPT_ATTRIBUTES);
     sieve.feed(b"\x10\0\x10\0")?;
@@ -22,7 +22,7 @@ pub(super) fn sifted_name(alloc: Global, length: u32, missing: u32) -> Result<Si
     Ok(sieve.finish())
 }
 
-/// What is left of a name: it alone, or why nothing is.
+/// The elements that are left of a name: only the name, or why nothing is left.
 #[derive(Clone, Copy, Debug, PartialEq, Eq)]
 enum Left {
     Name,

@@ -63,7 +63,7 @@ fn a_closed_store_is_adopted(rt: HostRuntime) -> Result<(), Fail> {
     a_store_is_adopted::<FileStore<File>>(&rt, rt.alloc())
 }
 
-/// What makes a store of version 1, with NORTH's worklist entry of the id S1.
+/// The statements that make a store of version 1, with NORTH's worklist entry of the id S1.
 const VERSION_1: [&str; 5] = [
     "CREATE TABLE kept (kind INTEGER NOT NULL CHECK (kind BETWEEN 1 AND 5), inst TEXT NOT NULL, id BLOB NOT NULL, above BLOB NOT NULL, patient BLOB, day INTEGER, octets BLOB NOT NULL, PRIMARY KEY (kind, inst, id)) STRICT",
     "CREATE TABLE version (number INTEGER NOT NULL) STRICT",

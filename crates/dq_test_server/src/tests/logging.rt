@@ -1,4 +1,4 @@
-//! What is logged of an association that comes and goes in parts. All other lines are for the suites.
+//! Log lines of an association that comes and goes in parts. All other lines are for the suites.
 ghost use Rattle.std.specs.Prelude.{◌<◌};
 
 use super::sockets::Hand;

@@ -152,7 +152,7 @@ fn storing(alloc: Global) -> Result<Vec<Event>, AllocError> {
     Ok(events)
 }
 
-/// What a server answers to it over tables that make so many changes.
+/// Returns the outcome of a server that answers it over tables that make so many changes.
 fn outcome(alloc: Global, changes: u64) -> Result<Outcome<Fused<PlainTables>>, Fail> {
     let events = storing(alloc)?;
     if !well_formed(&events) {
@@ -190,7 +190,7 @@ fn hospitals_store(alloc: Global, with_south: bool) -> Result<Vec<Event>, AllocE
     Ok(events)
 }
 
-/// What the hospitals come to over tables that make one change.
+/// Returns the outcome of the hospitals over tables that make one change.
 fn one_change(alloc: Global, with_south: bool) -> Result<Outcome<Fused<PlainTables>>, Fail> {
     let events = hospitals_store(alloc, with_south)?;
     if !well_formed(&events) {

@@ -100,8 +100,9 @@ fn accepts(calls: &[Call]) -> usize {
         .count()
 }
 
-/// What a play comes to: how its turns end, how many calls are made and how many of them accept, what is written at a place
-/// and how often it is shut, and whether the first two connections are held.
+/// The outcome of a play: how its turns end, how many calls are made and how many of them accept,
+/// what is written at a place and how often it is shut, and whether the first two connections are
+/// held.
 #[derive(Drop)]
 struct Outcome<'a> {
     answer: Result<(), TurnFault>,
