@@ -1,4 +1,4 @@
--- What the code holds of an association, and what that stands for.
+-- The state that the code holds of an association, and what that stands for.
 use Rattle.std.specs.Prelude.{◌≡◌, Bool, true, List, [], map, Option, Some, None, is_none}
 use Rattle.dq_pdu.specs.declared.pdu.Pdu.{Pdu}
 use Rattle.dq_dimse.specs.declared.assembler.Accepted.{Accepted}
@@ -44,7 +44,7 @@ is_unspent code.Waiting = true
 is_unspent (code.Open agreement holding) = is_none (spent_with holding)
 is_unspent (code.Closed agreement) = true
 
--- What is held stands for an association of the definitions.
+-- The held state stands for an association of the definitions.
 abbrev pub Stands : HeldAssociation → HeldState → Type 0
 Stands code.Waiting association = association ≡ Waiting
 Stands (code.Open agreement holding) association =

@@ -84,8 +84,8 @@ answered_context c = context_answer c.id (context_result c)
 abbrev pub peer_limit : Request → ℕ
 peer_limit request = unwrap_or request.maximum_length 0
 
--- What a request agrees on once it is accepted: the contexts that are accepted, in order, the
--- called title as it was received, and the peer's limit.
+-- The agreement on a request once it is accepted: the contexts that are accepted, in order, the called title as it was
+-- received, and the peer's limit.
 abbrev pub agreement_of : Request → Agreement
 agreement_of request = record {
   contexts = filter_map agreed_context request.contexts;
@@ -128,7 +128,7 @@ verdict_rejection Accept = None
 verdict_rejection Nowhere = Some unknown_rejection
 verdict_rejection Busy = Some (Reject transient presentation_provider local_limit_exceeded)
 
--- What a request is rejected with, in this order.
+-- The PDU that a request is rejected with, by reasons in this order.
 abbrev pub rejection : Request → Verdict → Option Pdu
 rejection request verdict =
     if not (request.version % 2 == 1)

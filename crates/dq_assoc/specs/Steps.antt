@@ -1,5 +1,4 @@
--- What inputs lead to: messages to be answered by their service, octets, and whether the connection
--- is closed.
+-- The outcome of inputs: messages to be answered by their service, octets, and whether the connection is closed.
 use Rattle.std.specs.Prelude.{ℕ, Bool, if◌then◌else◌, List, [], ◌∷◌, ◌++◌, Option, Some, None, is_some, option_map}
 use Rattle.dq_pdu.specs.declared.pdu.Pdu.{Pdu}
 use Rattle.dq_pdu.specs.declared.pdu.Pdu.TheVariants.{Abort}

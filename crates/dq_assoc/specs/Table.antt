@@ -14,9 +14,8 @@ use Rattle.dq_assoc.specs.declared.association.State.TheVariants.{Waiting, Open,
 use Rattle.dq_assoc.specs.declared.association.Verdict.{Verdict}
 use Rattle.dq_assoc.specs.Negotiation.{acceptance_of, rejection}
 
--- What an association is given: a request, a message, the peer's release or abort, what has no
--- place before a request (stray), and what breaks the protocol after one, with the reason of the
--- abort that answers it.
+-- An input to an association: a request, a message, the peer's release or abort, one that has no place before a request
+-- (stray), or one that breaks the protocol after a request, with the reason of the abort that answers it.
 pub data Input : Type 0 where
   Requested : Request → Input
   Sent : Message → Input

@@ -1,4 +1,4 @@
-//! What an association agrees on when its request is accepted (PS3.8 section 7.1.1).
+//! The agreement of an association when its request is accepted (PS3.8 section 7.1.1).
 ghost use Rattle.std.specs.Prelude.{◌≡◌, map, IfOk};
 ghost use Rattle.dq_dimse.specs.Sending.{IsPduLimit};
 ghost use Rattle.dq_assoc.specs.PeerLimits.{limit_of_length};
@@ -67,7 +67,7 @@ pub struct AcceptedContext {
 }
 
 impl AcceptedContext {
-    /// What an assembler knows of it.
+    /// Returns what an assembler knows of it.
     fn accepted(&self) -> Accepted
         ensures { result ≡ assembler_context self.now }
     {
@@ -78,7 +78,7 @@ impl AcceptedContext {
     }
 }
 
-/// What an open association agreed on.
+/// The agreement of an open association.
 #[derive(Drop)]
 pub struct Agreement {
     /// The contexts that were accepted, in the request's order.

@@ -35,7 +35,7 @@ pub enum State {
     Closed,
 }
 
-/// What is known of a request's titles.
+/// The verdict on a request's titles.
 #[derive(Clone, Copy, Debug, PartialEq, Eq)]
 pub enum Verdict {
     /// They name an institution that takes one more association.
@@ -46,7 +46,7 @@ pub enum Verdict {
     Busy,
 }
 
-/// What a PDU leads to: messages to be answered first, then octets, and whether the connection is
+/// The outcome of a PDU: messages to be answered first, then octets, and whether the connection is
 /// closed.
 #[derive(Drop)]
 pub struct Step {
@@ -55,7 +55,7 @@ pub struct Step {
     pub close: bool,
 }
 
-/// What an association holds between two PDUs.
+/// The state that an association holds between two PDUs.
 #[derive(Drop)]
 pub(crate) enum Held {
     Waiting,
@@ -64,7 +64,7 @@ pub(crate) enum Held {
 }
 
 impl Held {
-    /// What was agreed on.
+    /// Returns what was agreed on.
     fn into_agreement(self) -> Option<Agreement>
         ensures { result ≡ held_agreement self }
     {
@@ -209,7 +209,7 @@ fn fault_answer(state: State, fault: PduFault) -> Option<Pdu>
     }
 }
 
-/// What PDVs lead to: the messages that they complete, and whether they are no messages.
+/// The outcome of PDVs: the messages that they complete, and whether they are not messages.
 #[derive(Drop)]
 struct Read {
     messages: Listed<Message>,
@@ -280,7 +280,7 @@ fn read_pdvs(alloc: Global, assembler: &mut Assembler, pdvs: &[Pdv]) -> Result<R
     })
 }
 
-/// What an association holds once its request is accepted.
+/// Returns the state that an association holds once its request is accepted.
 fn opened(alloc: Global, request: &Request, limit: PeerLimit) -> Result<Held, AllocError>
     requires { limit ≡ peer_limit request.now }
     ensures { IfOk result (λ held. Stands held (association_at State.Open request.now)) }
@@ -330,7 +330,7 @@ impl Association {
         }
     }
 
-    /// What the association agreed on with its request, also after it is closed.
+    /// Returns what the association agreed on with its request, also after it is closed.
     pub fn agreement(&self) -> Option<&Agreement>
         ensures { option_copied result ≡ held_agreement self.now }
     {
@@ -496,7 +496,7 @@ impl Association {
         self.end(messages, fault)
     }
 
-    /// What messages lead to, and then a fault of the stream if there is one.
+    /// Returns the step that messages lead to, and then a fault of the stream if there is one.
     fn end(&mut self, messages: Vec<Message>, fault: Option<PduFault>) -> Result<Step, AllocError>
         requires { held_state self.old ≡ State.Open }
         ensures step { (association : Pure) (before : List Received) → Stands self.old association →

@@ -2,7 +2,7 @@
 ghost use Rattle.std.specs.Prelude.{◌≡◌};
 ghost use Rattle.dq_assoc.specs.Classes.{uid_of, class_of, service_of};
 
-/// What serves the messages of a presentation context.
+/// The service that serves the messages of a presentation context.
 #[derive(Clone, Copy, Debug, PartialEq, Eq)]
 pub enum Service {
     /// PS3.4 annex A.
@@ -68,7 +68,7 @@ impl SopClass {
         SERVED.iter().find(|class| class.uid() == uid).copied()
     }
 
-    /// What serves it.
+    /// Returns the service that serves it.
     pub fn service(self) -> Service
         ensures { result ≡ service_of self }
     {

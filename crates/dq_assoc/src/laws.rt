@@ -68,7 +68,7 @@ pub fn contexts_are_negotiated()
         ≡ map (λ (c : ProposedContext). c.id) contexts }
 {}
 
-/// What is agreed on is the contexts that are accepted, in order.
+/// The contexts that are agreed on are those that are accepted, in order.
 pub fn agreements_are_of_accepted_contexts()
     ensures contexts { (request : Request) →
         map (λ (a : AcceptedContext). Some a) (agreement_of request).contexts
@@ -162,8 +162,8 @@ pub fn unfinished_messages_are_short()
         length (octets_gathered holding.gathered) ≤ gathered_limit holding.gathered }
 {}
 
-/// What PDUs after the first lead to that are taken one by one is read off the inputs that they add
-/// together.
+/// The outcome of PDUs after the first that are taken one by one is read off the inputs that they
+/// add together.
 pub fn pdus_taken_one_by_one()
     ensures { (first : Pdu) (pdus more : List Pdu) (association : HeldState) →
         AssociationAfter (first ∷ pdus) association →

@@ -63,8 +63,8 @@ fn preferred_syntax(offered: &[Listed<u8>]) -> Option<Syntax>
     }
 }
 
-/// What a proposed context comes to: the context that is agreed on, in Explicit VR Little Endian
-/// where that is offered, else in Implicit, or why it is refused.
+/// Returns the result of a proposed context: the context that is agreed on, in Explicit VR Little
+/// Endian if that is offered, else in Implicit, or why it is refused.
 pub fn context_result(context: &ProposedContext) -> Result<AcceptedContext, ContextRefusal>
     ensures { result ≡ context_result context.now }
 {
@@ -88,8 +88,8 @@ pub fn is_accepted(context: &ProposedContext) -> bool
     context_result(context).is_ok()
 }
 
-/// What a request agrees on once it is accepted: the contexts that are accepted, in order, its
-/// called title and its limit.
+/// Returns the agreement on a request once it is accepted: the contexts that are accepted, in
+/// order, its called title and its limit.
 pub(crate) fn agreement_of(
     alloc: Global,
     request: &Request,

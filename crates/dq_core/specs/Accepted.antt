@@ -1,5 +1,5 @@
--- What came on a connection that is held: nothing closes it, so that it has sent no request yet,
--- or one that was accepted, and messages.
+-- The inputs of a connection that is held: nothing closes it, so it has sent no request yet, or one that was accepted,
+-- and messages.
 use Rattle.std.specs.Prelude.{◌≡◌, IsTrue, IsSome, List, [], ◌∷◌}
 use Rattle.dq_pdu.specs.declared.pdu.Request.{Request}
 use Rattle.dq_assoc.specs.declared.association.State.TheVariants.{Waiting, Open}

@@ -1,5 +1,5 @@
--- What was added to each institution while searches were open there, in the order of the
--- configuration. This is there for the prover.
+-- The additions to each institution while searches were open there, in the order of the configuration. This is for the
+-- prover.
 use Rattle.std.specs.Prelude.{ℕ, List, [], Option, Some, None, slice_index_or, slice_set}
 use Rattle.dq_config.specs.declared.config.Institution.{Institution}
 use Rattle.dq_archive.specs.declared.additions.Addition.{Addition}

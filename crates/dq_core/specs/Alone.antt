@@ -20,8 +20,8 @@ pub record AloneWorld : Type 0 where
   pub connections : List Connection
   pub records : List Record
 
--- What an event does: its reply, its changes of the records, in order, and the connections that are
--- held afterwards.
+-- The effect of an event: its reply, its changes of the records, in order, and the connections that are held
+-- afterwards.
 pub record AloneTurn : Type 0 where
   pub reply : Reply
   pub changes : List (List Edit)

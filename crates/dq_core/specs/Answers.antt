@@ -1,5 +1,5 @@
--- What the inputs of an association are answered with and change, for one institution: the same
--- for the server that institutions share and for one that an institution has alone.
+-- The answers to the inputs of an association and the changes that these make, for one institution: the same for the
+-- server that institutions share and for one that an institution has to itself.
 use Rattle.std.specs.Prelude.{ℕ, Bool, false, nat_le, if◌then◌else◌, List, [], ◌∷◌, ◌++◌, length, drop, Option, Some, None, option_map}
 use Rattle.dq_pdu.specs.declared.pdu.Request.{Request}
 use Rattle.dq_assoc.specs.declared.association.State.TheVariants.{Waiting, Open}
@@ -15,8 +15,8 @@ use Rattle.dq_tables.specs.Rows.{Record, Edit, records_after_edits}
 use Rattle.dq_core.specs.Pages.{OpenQuery, Reaction, reaction}
 use Rattle.dq_core.specs.Connections.{Connection, with_piece, with_connection, without}
 
--- What the answers to inputs go on from: what was agreed, once a request came, the institution's
--- records, and the C-FIND that is open, if one is.
+-- The state from which the answers to inputs go on: what was agreed, once a request came, the institution's records,
+-- and the C-FIND that is open, if one is.
 pub record Progress : Type 0 where
   pub agreement : Option Agreement
   pub records : List Record

@@ -72,8 +72,8 @@ arrivals institutions rows number before (e ∷ events) =
 
 -- ---- the responses to a message
 
--- What stands behind a message and its pulls: a C-CANCEL of it, another message, or no message,
--- where the association or the history ends.
+-- The arrival after a message and its pulls: a C-CANCEL of it, another message, or no message, if the association or
+-- the history ends.
 pub data Next : Type 0 where
   Cancel : Next
   AnotherMessage : Next

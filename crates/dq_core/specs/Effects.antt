@@ -1,5 +1,4 @@
--- What the parts of the server do with tables, and what they leave at a fault. This is there for
--- the prover.
+-- The effects of the server's parts on tables, and what they leave at a fault. This is for the prover.
 use Rattle.std.specs.Prelude.{◌≡◌, ℕ, ◌⊎◌, if◌then◌else◌, List, [], ◌∷◌, ◌++◌, Result, IfOk, OnOk, OnErr, Option, None, Some}
 use Rattle.dq_dimse.specs.Received.{Message}
 use Rattle.dq_assoc.specs.declared.agreement.Agreement.{Agreement}
@@ -99,8 +98,7 @@ messages_answer limits agreement records query (message ∷ messages) =
     then_answer first
     (messages_answer limits agreement first.next.records first.next.query messages)
 
--- What inputs of a connection lead to: the acceptance of a request, and the step of what comes
--- after it.
+-- The outcome of a connection's inputs: the acceptance of a request, and the step of what comes after it.
 pub record Taken : Type 0 where
   pub opening : List ℕ
   pub step : AssociationStep

@@ -1,4 +1,4 @@
--- What it is that one institution's replies and records do not depend on the others.
+-- The definition of isolation: one institution's replies and records do not depend on the others.
 use Rattle.std.specs.Prelude.{◌≡◌, ℕ, zero, Bool, IsTrue, if◌then◌else◌, List, [], ◌∷◌, ◌++◌, length, filter, take, drop, Contains}
 use Rattle.dq_config.specs.declared.config.Institution.{Institution}
 use Rattle.dq_core.specs.declared.event.Event.{Event}

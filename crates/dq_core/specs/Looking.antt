@@ -1,4 +1,4 @@
--- What a look at a server's rows leaves.
+-- The state of a server after a look at its rows.
 use Rattle.std.specs.Prelude.{◌≡◌, ◌↔◌, true, false, List, Ok, Err}
 use Rattle.dq_tables.specs.declared.row.Row.{Row}
 use Rattle.dq_tables.specs.TableStates.{State}

@@ -1,4 +1,4 @@
--- What is noted for a log of the values in the identifier of a C-FIND.
+-- The part of the values in a C-FIND's identifier that is noted for a log.
 use Rattle.std.specs.Prelude.{ℕ, List, [], ◌∷◌, take, Option, Some, None}
 use Rattle.dq_vr.specs.declared.Tag.{Tag}
 use Rattle.dq_vr.specs.Tags.{modality, modalities_in_study, study_date}

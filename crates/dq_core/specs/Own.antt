@@ -59,7 +59,7 @@ replies_at mine (event ∷ events) [] = []
 replies_at mine (event ∷ events) (reply ∷ replies) =
     if mine event then reply ∷ replies_at mine events replies else replies_at mine events replies
 
--- What the server does on a connection: it sends an octet, or it closes the connection.
+-- An output of the server on a connection: it sends an octet, or it closes the connection.
 pub data Output : Type 0 where
   Octet : ℕ → Output
   Close : Output

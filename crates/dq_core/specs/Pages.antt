@@ -69,8 +69,8 @@ query_by agreement message responses = option_map (λ (r : Responses). record {
   left = r;
 }) responses
 
--- What a message leads to: the octets that are sent, the edits of the records, and the C-FIND that
--- is open afterwards.
+-- The reaction to a message: the octets that are sent, the edits of the records, and the C-FIND that is open
+-- afterwards.
 pub record Reaction : Type 0 where
   pub octets : List ℕ
   pub edits : List Edit

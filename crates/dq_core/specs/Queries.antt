@@ -1,5 +1,4 @@
--- What a query that is held stands for, over the records that there were as it began. This is there
--- for the prover.
+-- The open query that a held query stands for, over the records that there were when it began. This is for the prover.
 use Rattle.std.specs.Prelude.{◌≡◌, ◌<◌, ◌≤◌, ◌⊎◌, ℕ, Bool, true, List, [], ◌∷◌, ◌++◌, length, drop, Option, Some, None, option_map, Result, OnOk}
 use Rattle.dq_dataset.specs.Tree.{ElementList}
 use Rattle.dq_dimse.specs.declared.command.Command.{Command}

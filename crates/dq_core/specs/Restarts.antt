@@ -1,4 +1,4 @@
--- What a restart goes on from.
+-- The state from which a restart goes on.
 use Rattle.std.specs.Prelude.{◌≡◌, IsTrue, List, length, take, Contains}
 use Rattle.dq_config.specs.declared.config.Institution.{Institution}
 use Rattle.dq_tables.specs.declared.row.Row.{Row}

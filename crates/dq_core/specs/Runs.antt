@@ -1,4 +1,4 @@
--- What a run of a history comes to, also where a fault ends it.
+-- The outcome of a run of a history, also when a fault ends it.
 use Rattle.std.specs.Prelude.{◌≡◌, ℕ, suc, ◌⊎◌, List, [], ◌∷◌, length, take, drop, Option, Some}
 use Rattle.dq_config.specs.declared.config.Institution.{Institution}
 use Rattle.dq_config.specs.Limits.{limits_of}
@@ -23,8 +23,8 @@ pub record IsRun (institutions : List Institution) (rows : List Row) (events : L
   pub operations : ℕ
   pub rows_then : kept ≡ rows_within institutions rows events (length given) operations
 
--- What a crash leaves after such a run, where before it could leave the rows alone: the rows of the
--- run, with or without the next operation of the event in which a fault came.
+-- The rows that a crash leaves after such a run, if before the run it could leave only the rows: the rows of the run,
+-- with or without the next operation of the event in which a fault came.
 pub record IsLeftOf (institutions : List Institution) (rows : List Row) (events : List Event)
     (given : List Reply) (kept left : List Row) : Type 0 where
   pub operations : ℕ

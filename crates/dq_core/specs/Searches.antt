@@ -1,4 +1,4 @@
--- What is said of the responses to a C-FIND (PS3.4 sections C.4.1 and K.4.1).
+-- Properties of the responses to a C-FIND (PS3.4 sections C.4.1 and K.4.1).
 use Rattle.std.specs.Prelude.{◌≡◌, ◌≢◌, ℕ, Bool, List, [], map, Some, Ok}
 use Rattle.dq_dataset.specs.Tree.{ElementList}
 use Rattle.dq_dimse.specs.declared.command.Command.{Command}

@@ -1,4 +1,4 @@
--- What contracts see of a server, and which history of events it refines.
+-- A server as contracts see it, and which history of events it refines.
 use Rattle.std.specs.Prelude.{◌≡◌, ◌⊎◌, ℕ, Bool, false, List, [], Option, None}
 use Rattle.dq_config.specs.declared.config.Institution.{Institution}
 use Rattle.dq_tables.specs.declared.row.Row.{Row}
@@ -10,7 +10,7 @@ use Rattle.dq_core.specs.Shared.{world_after}
 use Rattle.dq_core.specs.Histories.{newest_after}
 use Rattle.dq_core.specs.Slots.{AreHeld, has_slot, has_search}
 
--- What contracts see of a server. Its slots are there for the prover.
+-- A server as contracts see it. Its slots are there for the prover.
 pub record ServerView (Tables : Type 0) : Type 0 where
   pub institutions : List Institution
   pub tables : Tables
@@ -18,9 +18,8 @@ pub record ServerView (Tables : Type 0) : Type 0 where
   pub newest : Option ℕ
   pub spent : Bool
 
--- What takes no memory, by what the server itself holds and whatever its tables did: the end of a
--- connection, an empty piece, a piece under a number without a slot, and a pull where no C-FIND is
--- open in one.
+-- An event that takes no memory, by what the server itself holds and whatever its tables did: the end of a connection,
+-- an empty piece, a piece under a number without a slot, or a pull under a number with no C-FIND open in a slot.
 abbrev pub IsQuiet : Connections → Event → Type 0
 IsQuiet held (End number) = Unit {0}
 IsQuiet held (Piece number piece) = (piece ≡ []) ⊎ (has_slot number held ≡ false)

@@ -1,6 +1,5 @@
--- What a message is answered with and what it changes, and what the console's orders change. A
--- service sees the limits and the records of one institution, what was agreed, and the message: no
--- name, no route, no other's record.
+-- The answer to a message and what it changes, and what the console's orders change. A service sees the limits and the
+-- records of one institution, what was agreed, and the message: no name, no route, no other's record.
 use Rattle.std.specs.Prelude.{ℕ, Bool, true, false, ◌==◌, ◌||◌, if◌then◌else◌, bit_or, List, [], map, Option, Some, None, is_some}
 use Rattle.dq_dataset.specs.declared.header.Syntax.{Syntax}
 use Rattle.dq_dataset.specs.Tree.{ElementList}
@@ -48,8 +47,7 @@ pub record Served : Type 0 where
   pub responses : Option Responses
   pub edits : List Edit
 
--- What the console orders: an entry's data set to be scheduled, or the entry with an id to be
--- withdrawn.
+-- An order of the console: to schedule an entry's data set, or to withdraw the entry with an id.
 pub data ConsoleOrder : Type 0 where
   Scheduling : List ℕ → ConsoleOrder
   Withdrawal : List ℕ → ConsoleOrder
@@ -181,8 +179,8 @@ abbrev pub served_by : AcceptedContext → Command → Found × List Edit → Se
 served_by context command outcome =
     record { responses = Some (responses context command outcome.0); edits = outcome.1 }
 
--- What a message on an association is answered with and changes. A C-CANCEL has no response, and a
--- message on a context that was not accepted has none.
+-- The responses to a message on an association, and its edits. A C-CANCEL has no response, and a message on a context
+-- that was not accepted has none.
 unfoldable pub service_of_message : Limits → List Record → Agreement → Message → Served
 service_of_message limits records agreement message =
     if message.command.code == c_cancel then no_response

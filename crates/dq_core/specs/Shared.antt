@@ -22,8 +22,8 @@ pub record World : Type 0 where
   pub connections : List Connection
   pub rows : List Row
 
--- What an event does: its reply, its operations on the rows, in order, and the connections that are
--- held afterwards.
+-- The effect of an event: its reply, its operations on the rows, in order, and the connections that are held
+-- afterwards.
 pub record EventEffect : Type 0 where
   pub reply : Reply
   pub operations : List Operation

@@ -1,5 +1,5 @@
--- What an institution is shown of its records: what keys find among them, and its performed
--- procedure steps, a page at a time.
+-- The data that an institution is shown of its records: what keys find among them, and its performed procedure steps, a
+-- page at a time.
 use Rattle.std.specs.Prelude.{ℕ, min, List, [], map, take, drop, Option}
 use Rattle.std.specs.Option.{option_map}
 use Rattle.dq_config.specs.declared.config.Institution.{Institution}
@@ -25,7 +25,7 @@ page_most = 1000
 abbrev pub shown_page : {A : Type 0} → ShownPage → List A → List A
 shown_page page all = take (min page.limit page_most) (drop page.offset all)
 
--- What keys find, as in a C-FIND (PS3.4 sections C.4.1 and K.4.1). Nobody called a title, so the
+-- The result of a search by keys, as in a C-FIND (PS3.4 sections C.4.1 and K.4.1). Nobody called a title, so the
 -- answers of Study Root show an empty one.
 unfoldable pub found_in : SearchKind → ElementList → List Record → Found
 found_in StudyRoot keys records = study.keys_outcome records [] keys

@@ -1,4 +1,4 @@
--- What a slot of the server stands for: a connection that is held. This is there for the prover.
+-- Slots of the server, and what a slot stands for: a connection that is held. This is for the prover.
 use Rattle.std.specs.Str.{bytes_eq}
 use Rattle.std.specs.Prelude.{◌≡◌, ◌≤◌, ◌⊎◌, ◌&&◌, ℕ, Bool, false, length, IsSome, List, [], ◌∷◌, ◌++◌, Option, Some, None, is_some, Contains}
 use Rattle.std.specs.List.{AllByRecursion}
@@ -207,8 +207,7 @@ pub record AreAlike (one : Option Institution) (x : Answer) (other : Option Inst
   pub query : x.next.query ≡ y.next.query
   pub operations : operations_by one x.changes ≡ operations_by other y.changes
 
--- What is held of what was taken stands for what the definitions take, on a connection with an
--- agreement.
+-- The held form of what was taken stands for what the definitions take, on a connection with an agreement.
 pub record IsTaken (agreement : Option Agreement) (held : HeldTaken) (t : Taken) : Type 0 where
   pub opening : held.opening ≡ t.opening
   pub step : IsStep (accepted_in agreement) held.step t.step

@@ -1,4 +1,4 @@
--- What keeps sound rows sound: the server is sent octets, and each row holds a data set.
+-- The conditions that keep sound rows sound: the server is sent octets, and each row holds a data set.
 use Rattle.std.specs.Prelude.{◌≡◌, true, List}
 use Rattle.std.specs.List.{AllByRecursion}
 use Rattle.dq_list.specs.Octets.{AreOctets}

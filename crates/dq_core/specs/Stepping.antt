@@ -1,4 +1,4 @@
--- What a step of the server asks of its event, and what it leaves at a fault.
+-- The requirements of a server's step on its event, and what the step leaves at a fault.
 use Rattle.std.specs.Prelude.{◌≡◌, ℕ, true, false, ◌⊎◌, IsTrue, List, [], ◌++◌, take, Result, Err, OnOk, Option, None}
 use Rattle.dq_tables.specs.declared.row.Row.{Row}
 use Rattle.dq_tables.specs.Rows.{Operation, after_all}
@@ -30,9 +30,8 @@ TakesNoMemory connections (Open number) = ⊥
 TakesNoMemory connections (Schedule institution octets) = ⊥
 TakesNoMemory connections (Withdraw institution id) = ⊥
 
--- What was not honest does not become so. Store is answered only where the tables failed in the
--- call. Where a crash could leave the rows alone before an answer, it can leave nothing else after
--- it.
+-- Tables that were not honest do not become so. Store is answered only if the tables failed in the call. If a crash
+-- could leave only the rows before an answer, it can leave nothing else after it.
 pub record HealthAfter {A : Type 0} (old new : Kept) (result : Result A Fault) : Type 0 where
   pub was_honest : new.honest → old.honest
   pub told : result ≡ Err Store → new.failed ≡ true

@@ -1,4 +1,4 @@
--- What is said of the response to a C-STORE (PS3.4 section B.2.3).
+-- Properties of the response to a C-STORE (PS3.4 section B.2.3).
 use Rattle.std.specs.Prelude.{◌≡◌, ℕ, true, false, List, Some}
 use Rattle.std.specs.Result.{result_unwrap_or}
 use Rattle.dq_dataset.specs.Tree.{no_elements}

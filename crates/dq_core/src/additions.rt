@@ -1,4 +1,4 @@
-//! What was added to institutions while searches were open.
+//! The additions to institutions while searches were open.
 ghost use Rattle.std.specs.Prelude.{◌≡◌, [], IfOk, length};
 ghost use Rattle.dq_core.specs.Additions.{log_at, log_of, with_log};
 
@@ -30,7 +30,7 @@ impl Additions {
         Ok(Additions { logs })
     }
 
-    /// What was added to the institution of a name.
+    /// Returns the additions to the institution of a name.
     pub(crate) fn of(&self, config: &Config, name: &[u8]) -> &[Addition]
         ensures { result.now ≡ log_of config.now self.now.logs.items name.now }
     {

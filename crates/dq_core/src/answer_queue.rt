@@ -68,7 +68,7 @@ fn packed_octets(
 }
 
 impl AnswerQueue {
-    /// What was found, of which nothing is sent yet.
+    /// Returns a queue of what was found, of which nothing is sent yet.
     pub(crate) fn new(alloc: Global, found: Found) -> AnswerQueue
         ensures { result ≡ found }
     {

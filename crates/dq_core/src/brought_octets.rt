@@ -1,4 +1,4 @@
-//! What events bring are octets, by their type.
+//! The values that events bring are octets, by their type.
 ghost use Rattle.dq_list.specs.Octets.{AreOctets};
 ghost use Rattle.dq_core.specs.Soundness.{BringsOctets, BringOctets};
 
@@ -9,7 +9,7 @@ fn are_octets(_octets: &[u8])
     ensures { AreOctets _octets.now }
 {}
 
-/// What one event brings are octets.
+/// The values that one event brings are octets.
 fn brings_octets(event: &Event)
     ensures { BringsOctets event.now }
 {
@@ -21,7 +21,7 @@ fn brings_octets(event: &Event)
     }
 }
 
-/// What events bring are octets. Nothing is done: contracts learn it from the types.
+/// The values that events bring are octets. Nothing is done: contracts learn it from the types.
 pub(crate) fn bring_octets(events: &[Event])
     ensures { BringOctets events.now }
 {

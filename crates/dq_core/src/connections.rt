@@ -326,8 +326,8 @@ fn owner_of<'a>(config: &'a Config, slot: &Slot, pdus: &[Pdu]) -> Option<&'a Ins
     }
 }
 
-/// What is known of the titles of a connection: an institution that has it, and whether it takes
-/// one more association, or none.
+/// Returns the verdict on the titles of a connection: either an institution has the connection, and
+/// takes one more association or does not, or no institution has it.
 fn verdict_for(
     config: &Config,
     tally: &OpenAssociations,

@@ -1,6 +1,6 @@
 use dq_list::Listed;
 
-/// What happens to the server. A connection has a number, and opened numbers rise.
+/// An event that happens to the server. A connection has a number, and opened numbers rise.
 #[derive(Drop)]
 pub enum Event {
     /// A connection is opened.
@@ -23,7 +23,7 @@ pub enum Event {
     },
 }
 
-/// What an event is answered with.
+/// The reply to an event.
 #[derive(Drop)]
 pub enum Reply {
     /// Octets for a connection, and whether it is closed after them.

@@ -12,7 +12,7 @@ use thiserror::Error;
 pub enum Fault {
     #[error("memory ran out")]
     NoMemory = 1,
-    /// What keeps the rows failed.
+    /// The tables, which keep the rows, failed.
     #[error("the store failed")]
     Store = 2,
     #[error("the server stopped before")]

@@ -534,7 +534,7 @@ pub fn rows_stay_sound()
     ensures history { (institutions : List Institution) (rows : List Row) (events : List Event) →
         BringOctets events → HoldSound rows →
         HoldSound (world_after institutions rows events).rows }
-    // What came on the connections that are held afterwards were octets, too.
+    // The values that came on the connections that are held afterwards were octets, too.
     ensures came { (institutions : List Institution) (rows : List Row) (events : List Event) →
         BringOctets events → CameAsOctets (world_after institutions rows events).connections }
     ensures within { (institutions : List Institution) (rows : List Row) (events : List Event)
@@ -668,8 +668,8 @@ pub fn looks_are_one_look<T: Tables>()
         Looked T.state mid new → Looked T.state old new }
 {}
 
-/// What an institution is shown, of what keys find and of its steps, is what a server that it has
-/// alone shows over its rows. What others keep does not enter it.
+/// The search results and the steps that an institution is shown are those that a server of its own
+/// shows over its rows. Other institutions' records do not affect them.
 pub fn what_is_shown_is_own()
     ensures found { (institutions : List Institution) (rows : List Row) (events : List Event)
         (i : Institution) (kind : SearchKind) (keys : ElementList) (page : ShownPage) →

@@ -31,8 +31,8 @@ pub enum Party {
     Server,
 }
 
-/// What a C-FIND asks for: the tags of its keys, those of a worklist's step after the others, and
-/// the values of three of them. What is not asked is empty.
+/// The query of a C-FIND: the tags of its keys, those of a worklist's step after the others, and
+/// the values of three of them. A value that is not asked for is empty.
 #[derive(Drop)]
 pub struct QuerySummary {
     pub keys: Listed<Tag>,
@@ -41,7 +41,7 @@ pub struct QuerySummary {
     pub day: Listed<u8>,
 }
 
-/// What was served on a connection.
+/// An event to be logged: something that was served on a connection.
 #[derive(Drop)]
 pub enum LogEvent {
     /// An association was accepted at the institution of a name, with so many presentation contexts.
@@ -85,8 +85,8 @@ pub struct Note {
     pub noted: LogEvent,
 }
 
-/// What is noted of a message while its responses are sent: the service, how many answers were sent,
-/// and what a C-FIND asks for.
+/// A note of a message while its responses are sent: the service, how many answers were sent, and
+/// what a C-FIND asks for.
 #[derive(Drop)]
 pub(crate) struct ServedNote {
     pub service: Service,
@@ -104,8 +104,8 @@ pub struct Notes {
     is_kept: bool,
 }
 
-/// What the PDUs of a piece tell that no answer does: the titles of a request, whether its maximum
-/// length has room for data, and the source and the reason of an abort.
+/// The facts in the PDUs of a piece that no answer shows: the titles of a request, whether its
+/// maximum length has room for data, and the source and the reason of an abort.
 #[derive(Clone, Copy)]
 pub(crate) struct PduSummary {
     titles: Option<Titles>,
@@ -171,7 +171,7 @@ impl Notes {
         }
     }
 
-    /// What a connection is closed by.
+    /// Notes the event by which a connection is closed.
     pub(crate) fn close(&mut self, ending: Option<LogEvent>) {
         if let Some(noted) = ending {
             self.put(noted);
@@ -194,8 +194,8 @@ impl Notes {
         self.is_kept
     }
 
-    /// What is to be noted of a message of a service, once its last response is sent. Nothing is where
-    /// nothing is noted, or where there is no memory for it.
+    /// Returns what is to be noted of a message of a service, once its last response is sent.
+    /// Returns `None` if nothing is noted, or if there is no memory for it.
     pub(crate) fn begin(
         &mut self,
         service: Service,
@@ -240,7 +240,7 @@ impl Notes {
 }
 
 impl PduSummary {
-    /// What the first of the PDUs tells of a request, and the first abort among them.
+    /// Returns what the first of the PDUs tells of a request, and the first abort among them.
     pub(crate) fn of(pdus: &[Pdu]) -> PduSummary {
         let (titles, has_room) = match pdus.first() {
             Some(Pdu::Request(request)) => (
@@ -265,8 +265,8 @@ impl PduSummary {
         }
     }
 
-    /// What a step closes a connection by, if it does: the PDU that it answers, and an abort of the
-    /// peer where it answers none (PS3.8 section 9.2).
+    /// Returns the event by which a step closes a connection, if it does: the PDU that it answers
+    /// with, or an abort by the peer if it answers with none (PS3.8 section 9.2).
     pub(crate) fn ending(self, step: &Step) -> Option<LogEvent> {
         if !step.close {
             return None;
@@ -322,7 +322,7 @@ fn front_of(octets: &[u8]) -> &[u8]
     }
 }
 
-/// What is noted of an element of a data set.
+/// Returns the octets that are noted of an element of a data set.
 fn noted_octets(
     alloc: Global,
     data_set: Option<&DataSet>,
@@ -346,7 +346,7 @@ fn add_tags(tags: &mut Listed<Tag>, elements: &[Element]) -> Result<(), AllocErr
     Ok(())
 }
 
-/// What the identifier of a query of studies asks for.
+/// Returns what the identifier of a study query asks for.
 fn summary_of_studies(alloc: Global, identifier: &DataSet) -> Result<QuerySummary, AllocError>
     ensures { IfOk result (λ query. values_asked query ≡ asked_of_studies identifier.now) }
 {
@@ -364,7 +364,7 @@ fn summary_of_studies(alloc: Global, identifier: &DataSet) -> Result<QuerySummar
     })
 }
 
-/// What the identifier of a worklist query asks for.
+/// Returns what the identifier of a worklist query asks for.
 fn summary_of_entries(alloc: Global, identifier: &DataSet) -> Result<QuerySummary, AllocError>
     ensures { IfOk result (λ query. values_asked query ≡ asked_of_entries identifier.now) }
 {
@@ -382,7 +382,7 @@ fn summary_of_entries(alloc: Global, identifier: &DataSet) -> Result<QuerySummar
     })
 }
 
-/// What the identifier of a C-FIND of a service asks for.
+/// Returns what the identifier of a service's C-FIND asks for.
 fn summary_of(
     alloc: Global,
     service: Service,

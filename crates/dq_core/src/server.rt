@@ -69,7 +69,8 @@ impl<T> Model for Server<T> {
     } };
 }
 
-/// What a run came to: its replies, the fault that stopped it, if one did, and what keeps the rows.
+/// The outcome of a run: its replies, the fault that stopped it, if one did, and the tables, which
+/// keep the rows.
 #[derive(Drop)]
 pub struct Outcome<T> {
     pub replies: Listed<Reply>,
@@ -152,14 +153,14 @@ impl<T: Tables> Server<T> {
         self.connections.config.institutions()
     }
 
-    /// What keeps the rows.
+    /// Returns the tables, which keep the rows.
     pub fn tables(&self) -> &T
         ensures { result.now ≡ self.now.tables }
     {
         &self.tables
     }
 
-    /// What keeps the rows, when the server is done.
+    /// Returns the tables, which keep the rows, when the server is done.
     pub fn into_tables(self) -> T
         ensures { result ≡ self.tables }
     {
@@ -249,10 +250,10 @@ impl<T: Tables> Server<T> {
         }
     }
 
-    /// What keys find among the records of the institution of a name, if there is one, and of that a
-    /// page: what a C-FIND with them is answered. It is no event, and changes nothing. No title is
-    /// called, so the answers of Study Root show an empty one. After a fault every search is answered
-    /// Stopped.
+    /// Returns a page of what keys find among the records of the institution of a name, if there is
+    /// one: the answers to a C-FIND with these keys. It is not an event, and changes nothing. No
+    /// title is called, so the answers of Study Root show an empty one. After a fault every search
+    /// returns `Stopped`.
     pub fn search(
         &mut self,
         name: &[u8],
@@ -478,7 +479,8 @@ impl<T> Outcome<T> {
     }
 }
 
-/// What a run needs to begin: connections of which none is held, and room for so many replies.
+/// Returns what a run needs to begin: connections of which none is held, and room for so many
+/// replies.
 fn room_for(
     alloc: Global,
     config: Config,

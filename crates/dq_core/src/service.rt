@@ -1,4 +1,4 @@
-//! What messages are answered with, by the service of their context.
+//! Answers to messages, by the service of their context.
 
 ghost use Rattle.std.specs.Prelude.{◌≡◌, ◌≢◌, ◌++◌, [], List, drop, true, IfOk, IfErr, OnOk, OnErr, None, Some};
 ghost use Rattle.dq_dimse.specs.Holding.{AllRefine, Refines, RefinesOn, plain_message};
@@ -53,7 +53,7 @@ pub(crate) struct SearchScope<'a> {
     pub log: &'a [Addition],
 }
 
-/// What a connection is answered: octets, and the C-FIND that is open on it afterwards.
+/// The answer on a connection: octets, and the C-FIND that is open on it afterwards.
 #[derive(Drop)]
 pub(crate) struct Answered {
     pub octets: Vec<u8>,
@@ -195,7 +195,7 @@ impl<'a> Provider<'a> {
         self.perform(operation, message, context.syntax, tables, log)
     }
 
-    /// What is to be noted of a message, where notes are kept.
+    /// Returns what is to be noted of a message, if notes are kept.
     fn note(
         self,
         context: AcceptedContext,
@@ -458,7 +458,7 @@ pub(crate) fn send_page<T: Tables>(
     Ok(left)
 }
 
-/// What was logged after so many.
+/// Returns the additions that were logged after so many.
 fn since(log: &[Addition], count: usize) -> &[Addition]
     ensures { result.now ≡ drop count log.now }
 {

@@ -1,4 +1,4 @@
-//! What an institution is shown of what it keeps, a page at a time.
+//! The data that an institution is shown of what it keeps, a page at a time.
 ghost use Rattle.std.specs.Prelude.{◌≡◌, List, map, min, IfOk};
 ghost use Rattle.dq_tables.specs.TableStates.{Reads};
 ghost use Rattle.dq_tables.specs.Records.{data_set_of};
@@ -43,7 +43,7 @@ impl ShownPage {
     }
 }
 
-/// What keys find among an institution's records, and of that a page.
+/// Returns a page of what keys find among an institution's records.
 #[tactic(auto, unfolding(crate::specs::Showing::found_in))]
 pub(crate) fn search_page<T: Tables>(
     tables: &mut T,

@@ -51,7 +51,7 @@ pub(crate) struct Called<'a> {
     pub verdict: Verdict,
 }
 
-/// What PDUs lead to: the acceptance of a request, and the step of what comes after it.
+/// The outcome of PDUs: the acceptance of a request, and the step of what comes after it.
 #[derive(Drop)]
 pub(crate) struct Taken {
     pub opening: Listed<u8>,

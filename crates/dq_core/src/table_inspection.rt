@@ -7,10 +7,10 @@ use dq_tables::Tables;
 
 /// An inspection of what keeps the rows, which it leaves as it is. A copy of all rows is one.
 pub trait TableInspection<T: Tables> {
-    /// What is seen.
+    /// The type of what is seen.
     type Seen;
 
-    /// What is seen where the rows are these.
+    /// States what is seen if the rows are these.
     ghost shows: { Self → List Row → Self.Seen → Type 0 };
 
     /// Looks at it.

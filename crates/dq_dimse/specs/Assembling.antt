@@ -15,9 +15,9 @@ use Rattle.dq_dimse.specs.Messages.{command_limit, data_limit}
 
 -- ---- one PDV
 
--- What is gathered between two PDVs: nothing; the fragments of a command set so far, and their
--- context; a message whose command set is whole, with the fragments of its data set so far; or no
--- message any more, because of a fault.
+-- The part of a message that is gathered between two PDVs: nothing; the fragments of a command set so far, and their
+-- context; a message whose command set is whole, with the fragments of its data set so far; or no message any more,
+-- because of a fault.
 pub data PartialMessage : Type 0 where
   Nothing : PartialMessage
   CommandPart : ℕ → List ℕ → PartialMessage

@@ -1,4 +1,4 @@
--- What a reader of command sets answers, beside what it reads.
+-- The answers of a reader of command sets, beside what it reads.
 use Rattle.std.specs.Prelude.{◌≡◌, Option, Some, None, Result, Ok, Err}
 use Rattle.dq_dataset.specs.declared.fault.ReadFault.{ReadFault}
 use Rattle.dq_dataset.specs.declared.fault.ReadFault.TheVariants as read_faults
@@ -6,7 +6,7 @@ use Rattle.dq_dimse.specs.declared.fault.DimseFault.{DimseFault}
 use Rattle.dq_dimse.specs.declared.fault.DimseFault.TheVariants.{WrongContext, WrongKind}
 use Rattle.dq_dimse.specs.declared.fault.DimseFault.TheVariants.{BadCommand, NoMemory}
 
--- What a reader returned, seen by view, is what reading gives, unless memory ran out.
+-- The result of a reader, seen by view, is what reading gives, unless memory ran out.
 abbrev pub GivesOrDimseFault : {X Y : Type 0} → (X → Y) → Result X DimseFault → Option Y → Type 0
 GivesOrDimseFault view (Ok x) read = read ≡ Some (view x)
 GivesOrDimseFault view (Err NoMemory) read = Unit {0}

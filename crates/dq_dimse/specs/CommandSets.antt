@@ -25,8 +25,8 @@ pub record SpellsSet (octets : List ℕ) (set : ElementList) : Type 0 where
   pub spelled : IsSpelled Implicit octets set
   pub own : IsTrue (list_all belongs (elements_of set))
 
--- What the elements of a request's command set say, field by field (PS3.7 annex E.1). Numbers have
--- two octets: below the bit of responses it is clear. Identifiers are bare of padding.
+-- States what the elements of a request's command set say, field by field (PS3.7 annex E.1). Numbers have two octets:
+-- below the bit of responses it is clear. Identifiers are bare of padding.
 pub record SaysCommand (set : ElementList) (command : Command) : Type 0 where
   pub code : unsigned_short_at command_field set ≡ Some command.code
   pub is_request : command.code < response_bit

@@ -1,5 +1,5 @@
--- What the code holds of messages, and what that stands for. The data set of a C-STORE is sifted as
--- it comes: of its octets no more is held than what the kept attributes leave of it.
+-- The form in which the code holds messages, and what that stands for. The data set of a C-STORE is sifted as it comes:
+-- of its octets no more is held than what the kept attributes leave of it.
 use Rattle.std.specs.Prelude.{◌≡◌, ◌≤◌, ◌⊎◌, ℕ, ◌+◌, Bool, true, false, ◌==◌, ◌&&◌, not, List, [], ◌∷◌, ◌++◌, length, map, find, Option, Some, None, Result, Ok, Err}
 use Rattle.dq_pdu.specs.declared.pdu.Pdv.{Pdv}
 use Rattle.dq_dataset.specs.declared.header.Syntax.{Syntax}
@@ -47,7 +47,7 @@ is_sifted (Sifted answer) = true
 abbrev pub is_stored : Command → Bool
 is_stored command = command.code == c_store
 
--- What is held refines a message, the transfer syntax of whose context this is: it stands for it.
+-- A held message refines a message whose context has this transfer syntax: it stands for it.
 pub record Refines (syntax : Syntax) (held : HeldMessage) (message : Message) : Type 0 where
   pub context : held.context ≡ message.context
   pub command : held.command ≡ message.command
@@ -87,8 +87,8 @@ plain_message held = record {
 
 -- ---- what is gathered
 
--- What came of a data set: its octets; those of a C-STORE in a sieve, and the number of those for
--- which there is room; or nothing is held of it, since it passed its limit.
+-- The part of a data set that came: its octets; those of a C-STORE in a sieve, and the number of those for which there
+-- is room; or nothing is held of it, since it passed its limit.
 abbrev pub IncomingRefines : Syntax → IncomingDataSet → Message → Type 0
 IncomingRefines syntax (incoming.Octets octets) message =
     (is_stored message.command ≡ false) × (message.over ≡ false) × (octets ≡ message.octets)
@@ -100,7 +100,7 @@ IncomingRefines syntax (incoming.Sifting sieve room) message =
 IncomingRefines syntax incoming.ExceededLimit message =
     (message.over ≡ true) × (message.octets ≡ [])
 
--- What is held stands for a message whose data set is still to come.
+-- The held part stands for a message whose data set is still to come.
 pub record PendingRefines (begun : PendingMessage) (message : Message) : Type 0 where
   pub context : begun.context.id ≡ message.context
   pub command : begun.command ≡ message.command
@@ -189,7 +189,7 @@ AddsMessage accepted (Ok held) before after =
 AddsMessage accepted (Err fault) before after =
     (fault ≡ NoMemory) ⊎ (after ≡ record { list = before; fault = Some fault })
 
--- What a PDV makes of what was gathered. This is there for the prover.
+-- The effect of a PDV on what was gathered. This is for the prover.
 abbrev pub MakesGathering : List Accepted → Result (Option HeldMessage × HeldGathered) DimseFault → Gathering
     → Type 0
 MakesGathering accepted (Ok x) made =

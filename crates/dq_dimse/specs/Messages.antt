@@ -80,8 +80,8 @@ AreMessages ids (message ∷ messages) pdvs rest =
     (run : List Pdv) × (others : List Pdv) × (pdvs ≡ run ++ others)
     × IsMessage ids run message × AreMessages ids messages others rest
 
--- What a message to come begins with: nothing yet or command fragments, so that a command fragment
--- is due; or a command set, and of the data set nothing yet or data fragments: one of these is due.
+-- The beginning of a message to come: nothing yet or command fragments, so that a command fragment is due; or a command
+-- set, and of the data set nothing yet or data fragments: one of these is due.
 pub record AwaitsCommand (ids : List ℕ) (context : ℕ) (run : List Pdv) : Type 0 where
   pub accepted : IsTrue (is_number_among context ids)
   pub fragments : AreFragments context true run

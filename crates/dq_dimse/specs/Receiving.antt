@@ -1,4 +1,4 @@
--- What a service takes of a message.
+-- The parts of a message that a service takes.
 use Rattle.std.specs.Prelude.{ℕ, Bool, ◌||◌, nat_lt, length, Option, Some, None, Result, Ok, Err, if◌then◌else◌}
 use Rattle.std.specs.Result.{result_ok}
 use Rattle.dq_dataset.specs.declared.header.Syntax.{Syntax}

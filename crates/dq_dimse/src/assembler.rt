@@ -39,7 +39,7 @@ pub struct Accepted {
     pub syntax: Syntax,
 }
 
-/// What came of a data set.
+/// The part of a data set that came.
 #[derive(Drop)]
 pub(crate) enum IncomingDataSet {
     /// Its fragments so far.
@@ -58,7 +58,7 @@ pub(crate) struct PendingMessage {
     pub data_set: IncomingDataSet,
 }
 
-/// What an assembler holds between two PDVs.
+/// The state that an assembler holds between two PDVs.
 #[derive(Drop)]
 pub(crate) enum PartialMessage {
     Nothing,
@@ -107,7 +107,7 @@ fn data_limit(command: &Command) -> usize
 }
 
 impl IncomingDataSet {
-    /// What came of the data set of a command before its first fragment.
+    /// Returns what came of the data set of a command before its first fragment.
     fn of(alloc: Global, command: &Command, syntax: Syntax) -> IncomingDataSet
         ensures { (context : ℕ) → IncomingRefines syntax result (begun_with context command.now) }
     {
@@ -160,7 +160,7 @@ impl IncomingDataSet {
         }
     }
 
-    /// What is held of the data set, when it is whole.
+    /// Returns what is held of the data set, when it is whole.
     fn into_body(self, alloc: Global) -> Body
         ensures body { (syntax : Syntax) (message : Received) →
             IncomingRefines syntax self message → BodyRefines syntax result message.octets }
@@ -233,7 +233,7 @@ impl PendingMessage {
     }
 }
 
-/// What the octets of a whole command set make: a message, or one whose data set follows.
+/// Returns what the octets of a whole command set make: a message, or one whose data set follows.
 fn command_completed(
     alloc: Global,
     context: Accepted,
@@ -303,7 +303,7 @@ fn after_data(
     }
 }
 
-/// What one more PDV does to what was gathered.
+/// Adds one more PDV to what was gathered.
 fn gather(
     alloc: Global,
     accepted: &[Accepted],
@@ -368,7 +368,7 @@ impl Assembler {
         ensures stands { (accepted : List Accepted) (pdvs : List Pdv) →
             WasGivenPdvs accepted pdvs self.old →
             OnOk result (WasGivenPdvs accepted (pdvs ++ pdv.now ∷ []) self.new) }
-        // What one PDV adds to whatever the assembler stands for.
+        // The additions of one PDV to whatever the assembler stands for.
         ensures exact { (assembly : Assembly) → Assembles self.old assembly →
             AddsMessage self.old.accepted result [] (messages_from assembly (pdv.now ∷ [])) }
         ensures next { (assembly : Assembly) → Assembles self.old assembly →

@@ -4,7 +4,7 @@ ghost use Rattle.std.specs.Prelude.{◌≡◌};
 use dq_dataset::Sifted;
 use dq_list::Listed;
 
-/// What a command set says (PS3.7 annex E).
+/// The content of a command set (PS3.7 annex E).
 #[derive(Drop)]
 pub struct Command {
     /// Command Field (0000,0100).
@@ -55,7 +55,7 @@ impl Command {
 #[derive(Drop)]
 pub enum Body {
     Octets(Listed<u8>),
-    /// What the kept attributes leave of it. Its octets were sifted as they came.
+    /// The part of it that the kept attributes leave. Its octets were sifted as they came.
     Sifted(Sifted),
 }
 

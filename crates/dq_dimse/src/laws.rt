@@ -1,5 +1,5 @@
-//! What the definitions mean: laws that hold of them, each proved as the contract of a function
-//! that does nothing.
+//! The meaning of the definitions: laws that hold of them, each proved as the contract of a
+//! function that does nothing.
 ghost use Rattle.std.specs.Prelude.{◌≡◌, ◌≤◌, ◌<◌, ◌⊎◌, ℕ, Bool, true, false, IsTrue, List, [], ◌∷◌};
 ghost use Rattle.std.specs.Prelude.{◌++◌, length, map, Option, Some, None};
 ghost use Rattle.dq_list.specs.Octets.{AreOctets};
@@ -68,7 +68,7 @@ pub fn code_has_the_numbers()
     ensures kept { KEPT_ATTRIBUTES ≡ kept_attributes }
 {}
 
-/// What is read of octets is what they are: a command set is read exactly.
+/// Octets are read as what they are: a command set is read exactly.
 pub fn command_sets_are_read()
     ensures are { (octets : List ℕ) (command : Command) → AreOctets octets →
         command_of octets ≡ Some command → IsCommandSet octets command }
@@ -78,7 +78,7 @@ pub fn command_sets_are_read()
     spelling_law();
 }
 
-/// What is written of a response is a command set, and is read as that response.
+/// The octets that are written for a response are a command set, and are read as that response.
 pub fn responses_are_command_sets()
     ensures { (command : Command) → HasFields command → SaysResponse command (command_set command) }
 {}
@@ -105,7 +105,7 @@ pub fn more_pdvs_add()
         × ((messages ids (xs ++ ys)).list ≡ (messages ids xs).list ++ later) }
     ensures fault_stays { (ids : List ℕ) (xs ys : List Pdv) (fault : DimseFault) →
         (messages ids xs).fault ≡ Some fault → messages ids (xs ++ ys) ≡ messages ids xs }
-    // What they add is told by the assembler that was given the PDVs before them.
+    // The assembler that was given the PDVs before them tells what they add.
     ensures goes_on { (ids : List ℕ) (xs ys : List Pdv) (assembly : Assembly) →
         AssemblerAfter ids xs assembly →
         messages ids (xs ++ ys) ≡ followed_by (messages ids xs).list (messages_from assembly ys) }
@@ -122,7 +122,7 @@ pub fn assemblers_stand_for_pdvs()
         AssemblerAfter ids pdvs assembly → (messages ids pdvs).fault ≡ spent_by assembly }
 {}
 
-/// What PDVs add to any assembler: in parts as in one, and nothing to one that is spent.
+/// The additions of PDVs to any assembler: in parts as in one, and nothing to one that is spent.
 pub fn assemblers_go_on()
     ensures nothing { (assembly : Assembly) →
         (messages_from assembly [] ≡ record { list = []; fault = spent_by assembly })
@@ -185,8 +185,8 @@ pub fn fragments_are_the_only()
         AreFragmentsOf size octets run → run ≡ fragments size octets }
 {}
 
-/// What is sent is read again: as PDUs of one PDV each, with no rest and no fault, and the PDVs
-/// carry the command set and the data set.
+/// A message that is sent is read again: as PDUs of one PDV each, with no rest and no fault, and
+/// the PDVs carry the command set and the data set.
 pub fn what_is_sent_is_read()
     ensures { (context limit : ℕ) (command : Command) (octets : Option (List ℕ)) →
         IsPduLimit limit → (pdvs : List Pdv)

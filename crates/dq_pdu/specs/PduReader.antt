@@ -1,5 +1,4 @@
--- What stands at the front of octets, computed. Each definition here reads what the one of its name
--- in Spelling spells.
+-- Reading from the front of octets, computed. Each definition here reads what the one of its name in Spelling spells.
 use Rattle.std.specs.Prelude.{◌≡◌, ℕ, ◌+◌, ◌-◌, ◌/◌, ◌%◌, Bool, not, ◌&&◌, ◌||◌, ◌==◌, nat_lt, nat_le, if◌then◌else◌, List, length, take, drop, map, slice_index, Option, Some, None, option_map}
 use Rattle.std.specs.Int.{w16, w32, from_be_bytes}
 use Rattle.dq_list.specs.Lengths.{is_empty}

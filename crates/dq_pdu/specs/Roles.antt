@@ -1,5 +1,4 @@
--- What a PDU is to an association (PS3.8 section 9.2): its request, PDVs of its messages, or its
--- end.
+-- The role of a PDU in an association (PS3.8 section 9.2): its request, PDVs of its messages, or its end.
 use Rattle.dq_pdu.specs.declared.pdu.Pdu.{Pdu}
 use Rattle.dq_pdu.specs.declared.pdu.Pdu.TheVariants.{Request as request_pdu, Accept as accept_pdu, Reject, PData, ReleaseRq, ReleaseRp, Abort}
 use Rattle.dq_pdu.specs.declared.role.Role.{Role}

@@ -132,7 +132,7 @@ fn application_context_of(
     }
 }
 
-/// What a request and an acceptance have in common (PS3.8 sections 9.3.2 and 9.3.3).
+/// The fields that a request and an acceptance have in common (PS3.8 sections 9.3.2 and 9.3.3).
 #[derive(Drop)]
 pub(crate) struct Associate {
     pub version: u16,
@@ -143,8 +143,8 @@ pub(crate) struct Associate {
     pub maximum_length: Option<u32>,
 }
 
-/// What a request and an acceptance have in common, from the body and the items after its fixed
-/// fields.
+/// Returns the fields that a request and an acceptance have in common, from the body and the items
+/// after its fixed fields.
 #[tactic(auto, unfolding(crate::specs::PduReader::fields_of))]
 fn fields_of(alloc: Global, body: &[u8], items: &[Item]) -> Result<Associate, ReadError>
     requires { associate_fields ≤ length body.now }
@@ -163,8 +163,8 @@ fn fields_of(alloc: Global, body: &[u8], items: &[Item]) -> Result<Associate, Re
     })
 }
 
-/// What a request and an acceptance have in common, and the contexts in the items of a type, from
-/// the body (PS3.8 sections 9.3.2 and 9.3.3).
+/// Returns the fields that a request and an acceptance have in common, and the contexts in the
+/// items of a type, from the body (PS3.8 sections 9.3.2 and 9.3.3).
 #[tactic(auto, unfolding(crate::specs::PduReader::associate_of))]
 fn associate_of<C: Context>(
     alloc: Global,

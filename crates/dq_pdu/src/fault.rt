@@ -1,11 +1,11 @@
-//! What is wrong with a stream, and why a piece is not taken.
+//! Faults of a stream, and why a piece is not taken.
 ghost use Rattle.std.specs.Prelude.{◌≡◌};
 ghost use Rattle.dq_pdu.specs.declared.fault.InboxError.TheVariants.{NoMemory};
 
 use std::alloc::AllocError;
 use thiserror::Error;
 
-/// What is wrong with a stream (PS3.8 section 9.3.8): the first fault, in this order.
+/// A fault of a stream (PS3.8 section 9.3.8): the first fault, in this order.
 #[derive(Clone, Copy, Debug, PartialEq, Eq, Error)]
 pub enum PduFault {
     #[error("the type of a PDU is unknown")]

@@ -17,7 +17,7 @@ use std::mem;
 /// The most room that is kept for another stream, in octets: that of two PDUs of the greatest length.
 const MOST_ROOM: usize = 2 * (PDU_HEADER + LONGEST_BODY);
 
-/// What an inbox holds between two pieces.
+/// The state that an inbox holds between two pieces.
 #[derive(Drop)]
 pub(crate) enum InboxState {
     /// The octets after the last PDU.
@@ -46,7 +46,7 @@ impl Model for Inbox {
     ghost invariant = { λ a. HoldsPart a.state };
 }
 
-/// What a piece added to a stream: the PDUs that it completed, and the fault after them.
+/// The additions of a piece to a stream: the PDUs that it completed, and the fault after them.
 #[derive(Drop)]
 pub struct Fed {
     pub pdus: Listed<Pdu>,
@@ -89,7 +89,7 @@ impl Inbox {
             × ((pdus_in (stream ++ piece.now)).fault ≡ fed.fault)) }
         ensures stands { (stream : List ℕ) → InboxAfter stream self.old
             → OnOk result (InboxAfter (stream ++ piece.now) self.new) }
-        // What is held and the piece after it.
+        // The rest that is held and the piece after it.
         ensures exact { (rest : List ℕ) → self.old ≡ InboxState.Reading rest → IfOk result (λ fed.
             ((pdus_in (rest ++ piece.now)).list ≡ fed.pdus)
             × ((pdus_in (rest ++ piece.now)).fault ≡ fed.fault)

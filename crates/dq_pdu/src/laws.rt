@@ -1,4 +1,4 @@
-//! What holds of all PDUs and of all streams. Each law is what a function with no body ensures.
+//! Laws that hold of all PDUs and of all streams. Each law is what a function with no body ensures.
 ghost use Rattle.std.specs.Prelude.{◌≡◌, ◌≤◌, ◌<◌, ◌+◌, ℕ, Bool, List, [], ◌++◌, length, take, Some, None, IsTrue};
 ghost use Rattle.std.specs.List.{flat_map, list_all};
 ghost use Rattle.dq_list.specs.Octets.{AreOctets};
@@ -25,7 +25,7 @@ pub fn spelling_is_unique()
         → SpellsPdu pdu octets → SpellsPdu other octets → pdu ≡ other }
 {}
 
-/// What is read is spelled so, and what is spelled so is read, whatever follows it.
+/// A PDU that is read is spelled so, and one that is spelled so is read, whatever follows it.
 pub fn reading_is_spelling()
     ensures spelled { (octets : List ℕ) (pdu : Pdu) (count : ℕ)
         → first_pdu octets ≡ Whole pdu count → SpellsPdu pdu (take count octets) }
@@ -33,7 +33,7 @@ pub fn reading_is_spelling()
         → first_pdu (octets ++ others) ≡ Whole pdu (length octets) }
 {}
 
-/// What is written for a PDU is read as that PDU, whatever follows it.
+/// The octets that are written for a PDU are read as that PDU, whatever follows them.
 pub fn writing_is_read()
     ensures { (pdu : Pdu) (others : List ℕ) → IsWritable pdu
         → first_pdu (pdu_octets pdu ++ others) ≡ Whole pdu (length (pdu_octets pdu)) }
@@ -105,8 +105,8 @@ pub fn an_inbox_stands_for_its_stream()
         → InboxAfter stream inbox → inbox_fault inbox ≡ (pdus_in stream).fault }
 {}
 
-/// What is left of a stream that has no fault is less than a PDU of the greatest length, and so is
-/// what an inbox holds, whatever it was fed: at most 65,541 octets (PS3.8 section 9.3.1).
+/// The rest of a stream that has no fault is less than a PDU of the greatest length, and so is what
+/// an inbox holds, whatever it was fed: at most 65,541 octets (PS3.8 section 9.3.1).
 pub fn a_rest_is_less_than_a_pdu()
     ensures rest { (stream : List ℕ) → (pdus_in stream).fault ≡ None
         → length (pdus_in stream).rest < pdu_header + longest_body }

@@ -1,4 +1,4 @@
-//! What octets begin with (PS3.8 section 9.3.1), and why a body cannot be read.
+//! The PDU that octets begin with (PS3.8 section 9.3.1), and why a body cannot be read.
 ghost use Rattle.std.specs.Prelude.{◌≡◌, IfOk};
 ghost use Rattle.dq_pdu.specs.declared.pdu_reader.ReadError.TheVariants.{Memory};
 ghost use Rattle.dq_pdu.specs.PduReader.{first_pdu};
@@ -40,7 +40,7 @@ impl<T: Drop> From<AllocFailed<T>> for ReadError {
     }
 }
 
-/// What octets begin with.
+/// The beginning of octets, read as a PDU.
 #[derive(Drop)]
 pub(crate) enum FirstPdu {
     /// Less than a PDU.
@@ -50,8 +50,8 @@ pub(crate) enum FirstPdu {
     Whole(Pdu, usize),
 }
 
-/// What octets begin with: a PDU's type, a reserved octet, the length of its body, and its body
-/// (PS3.8 section 9.3.1).
+/// Reads the beginning of octets: a PDU's type, a reserved octet, the length of its body, and its
+/// body (PS3.8 section 9.3.1).
 #[tactic(auto, unfolding(crate::specs::PduReader::first_pdu))]
 pub(crate) fn first_pdu_of(alloc: Global, octets: &[u8]) -> Result<FirstPdu, AllocError>
     ensures { IfOk result (λ found. found ≡ first_pdu octets.now) }

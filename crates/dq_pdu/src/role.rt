@@ -1,11 +1,11 @@
-//! What PDUs are to an association (PS3.8 section 9.2).
+//! The roles of PDUs in an association (PS3.8 section 9.2).
 ghost use Rattle.std.specs.Prelude.{◌≡◌};
 ghost use Rattle.dq_pdu.specs.Roles.{role_of};
 
 use crate::pdu::{Pdu, Pdv, Request};
 use dq_list::Listed;
 
-/// What a PDU is to an association of which this side is the acceptor (PS3.8 section 9.2).
+/// The role of a PDU in an association of which this side is the acceptor (PS3.8 section 9.2).
 #[derive(Drop)]
 pub enum Role {
     /// It asks for the association.
@@ -28,7 +28,7 @@ pub enum Ending {
 }
 
 impl Pdu {
-    /// What the PDU is to an association.
+    /// Returns the role of the PDU in the association.
     pub fn into_role(self) -> Role
         ensures { result ≡ role_of self }
     {

@@ -1,4 +1,4 @@
-//! What the parts of a PDU have to keep (PS3.8 section 9.3).
+//! Rules that the parts of a PDU have to keep (PS3.8 section 9.3).
 ghost use Rattle.std.specs.Prelude.{◌≡◌, ℕ, map};
 ghost use Rattle.std.specs.List.{list_all};
 ghost use Rattle.dq_pdu.specs.Octets.{is_uid_padding, is_number_among, are_distinct};

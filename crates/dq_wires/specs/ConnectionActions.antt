@@ -1,4 +1,4 @@
--- What is done in the turn of one connection.
+-- The actions in the turn of one connection.
 use Rattle.std.specs.Prelude.{◌≡◌, ◌≢◌, ◌≤◌, ℕ, true, false, List, [], ◌∷◌, length, drop, Option, Some, None, Result, Ok, Err}
 use Rattle.dq_core.specs.declared.event.Event.{Event}
 use Rattle.dq_core.specs.declared.event.Event.TheVariants.{Piece, End, Pull}
@@ -17,7 +17,7 @@ use Rattle.dq_wires.specs.Steps.Step.{Answered, Asked}
 abbrev pub Shutting : Type 0
 Shutting = Result (Unit {0}) WireFault
 
--- What is done for a connection in its turn.
+-- An action for a connection in its turn.
 pub data ConnectionAction : Type 0 where
   -- so many of its unsent octets were written
   Sent : ℕ → ConnectionAction

@@ -1,4 +1,4 @@
--- What wires tell of the calls that they were asked for.
+-- Logs that wires keep of the calls that they were asked for.
 use Rattle.std.specs.Prelude.{◌≡◌, ◌+◌, ◌-◌, ◌^◌, min, ℕ, List, [], ◌∷◌, ◌++◌, take, Option, Some, None, Result, Ok, Err}
 use Rattle.dq_wires.specs.declared.calls.WireFault.{WireFault}
 use Rattle.dq_wires.specs.declared.calls.ReadTurn.{ReadTurn}

@@ -81,7 +81,7 @@ ArePlayed earlier before (event ∷ events) acts = (own : List Act) × (later : 
     × IsPlayed (opened_numbers earlier) event before (after_acts before own)
     × ArePlayed (earlier ++ event ∷ []) (after_acts before own) events later
 
--- What is waited for on a connection has come to be.
+-- The condition that is awaited on a connection has come about.
 abbrev pub IsCome : Wanted → Option HeldConnection → Type 0
 IsCome goal None = Unit {0}
 IsCome (wanted.Heard count) (Some wire) = (wire.heard ≡ count) ⊎ (wire.closed ≡ true)

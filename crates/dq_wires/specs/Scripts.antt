@@ -1,4 +1,4 @@
--- What wires in memory tell.
+-- The calls that wires in memory log.
 use Rattle.std.specs.Prelude.{List, Option, option_map}
 use Rattle.dq_wires.specs.declared.calls.Call.{Call}
 use Rattle.dq_wires.specs.declared.memory.MemoryWires.{MemoryWires}

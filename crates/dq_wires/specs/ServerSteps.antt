@@ -1,4 +1,4 @@
--- What the server does at one event, or where it is asked.
+-- The server's step at one event, or when it is asked a question.
 use Rattle.std.specs.Prelude.{◌≡◌, ◌↔◌, ℕ, Bool, true, false, List, [], ◌∷◌, ◌++◌, Ok, Err}
 use Rattle.dq_tables.specs.declared.row.Row.{Row}
 use Rattle.dq_tables.specs.TableStates.{State}

@@ -1,4 +1,4 @@
--- What a server that stands for a history has come to after further steps.
+-- The state of a server that stands for a history, after further steps.
 use Rattle.std.specs.Prelude.{◌≡◌, List, ◌++◌}
 use Rattle.dq_tables.specs.declared.row.Row.{Row}
 use Rattle.dq_tables.specs.TableStates.{State, IsSettled}

@@ -87,8 +87,8 @@ served_steps acts cut = flat_map act_steps acts ++ cut_steps cut
 abbrev pub served_done : List Act → Cut → List Done
 served_done acts cut = flat_map act_done acts ++ cut_done cut
 
--- What a serving came to: its acts, and the part of a turn that a fault cut off. Where none did
--- this part is one before any call.
+-- The outcome of a serving: its acts, and the part of a turn that a fault cut off. If no fault did, this part is one
+-- before any call.
 pub record Served {Tables : Type 0} (state : Tables → State) (rows : List Row)
     (first last : ServerView Tables) (acts : List Act) (cut : Cut) : Type 0 where
   pub begins : Refines state rows first []

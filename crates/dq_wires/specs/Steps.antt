@@ -1,4 +1,4 @@
--- What is asked of a server, one after the other, each with its answer, and a fault at an event.
+-- Events and questions that are put to a server, one after the other, each with its answer, and a fault at an event.
 use Rattle.std.specs.Prelude.{◌≡◌, ℕ, Bool, List, [], ◌∷◌, Option, Some, None}
 use Rattle.dq_core.specs.declared.event.Event.{Event}
 use Rattle.dq_core.specs.declared.event.Reply.{Reply}

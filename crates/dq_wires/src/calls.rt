@@ -7,7 +7,7 @@ use thiserror::Error;
 #[error("the wire failed")]
 pub struct WireFault;
 
-/// What a read comes to.
+/// The result of a read.
 #[derive(Clone, Copy, Debug, PartialEq, Eq)]
 pub enum ReadTurn {
     /// So many octets, at the beginning of the buffer.
@@ -18,7 +18,7 @@ pub enum ReadTurn {
     Ended,
 }
 
-/// What came at a read.
+/// The outcome of a read, with the octets that came.
 #[derive(Drop)]
 pub enum ReadOutcome {
     Octets(Listed<u8>),

@@ -31,7 +31,7 @@ pub struct GivenUp {
     pub reason: Reason,
 }
 
-/// What knows the peers of connections, and may give up connections by itself.
+/// Knows the peers of connections, and may give up connections by itself.
 pub trait GivesUp {
     /// The address of the peer at a place, if it is known.
     fn peer(&self, _place: usize) -> Option<SocketAddr> {

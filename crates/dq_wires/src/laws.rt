@@ -76,16 +76,15 @@ pub fn no_more_are_held_than_fit()
         length (after_turns h turns).held ≤ most_wires }
 {}
 
-/// What a look leaves is not seen by the steps after it: a step after a look is that step alone.
+/// Steps after a look do not see what it leaves: a step after a look is just that step.
 pub fn looks_leave_no_trace<T: Tables>()
     ensures { (old mid new : ServerView T) (event : Event) (reply : Reply) →
         Looked T.state old mid → Stepped T.state mid new event reply →
         Stepped T.state old new event reply }
 {}
 
-/// What is asked of a turner from its beginning on, one call after the other, is a serving: turns
-/// that went to their end, orders that were answered, looks, and at last turns that a fault cut
-/// off.
+/// The calls to a turner from its beginning on, one after the other, are a serving: turns that went
+/// to their end, orders that were answered, looks, and at last turns that a fault cut off.
 pub fn calls_are_a_serving<T: Tables>()
     ensures begins { (rows : List Row) (log : Option (List Call)) (server : ServerView T) →
         Refines T.state rows server [] →
@@ -115,9 +114,9 @@ pub fn calls_are_a_serving<T: Tables>()
         Served T.state rows first off.mid (acts ++ all_turned off.turns) off.cut }
 {}
 
-/// What a serving answers is what the plain server answers to what came, in which opened numbers
-/// rise, and the rows are then those of the plain server; and what is written on a connection is
-/// the first of what was answered on it, each octet once and in order.
+/// The answers of a serving are those of the plain server to what came, in which opened numbers
+/// rise, and the rows are then those of the plain server; and the octets written on a connection
+/// are the first of those answered on it, each octet once and in order.
 pub fn servings_are_answered<T: Tables>()
     ensures well_formed { (rows : List Row) (first last : ServerView T) (acts : List Act)
         (cut : Cut) → Served T.state rows first last acts cut →

@@ -10,12 +10,12 @@ use jiff::Timestamp;
 use std::fmt;
 use std::net::SocketAddr;
 
-/// What a line tells.
+/// The content of a line.
 #[derive(Clone, Copy)]
 pub(crate) enum LineContent<'a> {
     /// The server starts, of a version.
     Started(&'a str),
-    /// What was noted, with the peer's address, and how many milliseconds its turn took.
+    /// An event that was noted, with the peer's address, and how many milliseconds its turn took.
     Event {
         noted: &'a LogEvent,
         peer: Option<SocketAddr>,
@@ -112,8 +112,8 @@ impl fmt::Display for Keys<'_> {
     }
 }
 
-/// What this server means by the source and the reason of a rejection. One pair of them stands for
-/// titles that are nobody's, and for a maximum length without room for data.
+/// Returns what this server means by the source and the reason of a rejection. One pair of them
+/// stands for titles that are nobody's, and for a maximum length without room for data.
 fn rejection_words(source: u8, reason: u8, has_room: bool) -> &'static str {
     match (source, reason) {
         (1, 1) if !has_room => "a maximum length below 8",
@@ -142,7 +142,7 @@ fn name_of(party: Party) -> &'static str {
     }
 }
 
-/// What is searched by a service.
+/// Returns the word for what a service searches.
 fn searched_by(service: Service) -> &'static str {
     match service {
         Service::WorklistFind => "worklist",

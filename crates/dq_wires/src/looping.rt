@@ -85,7 +85,7 @@ struct CaptureConnection {
 }
 
 impl CaptureConnection {
-    /// What it was sent.
+    /// Returns what it was sent.
     fn into_sent(self) -> Sent
         ensures { result.number ≡ self.number }
     {
@@ -98,7 +98,7 @@ impl CaptureConnection {
     }
 }
 
-/// What is waited for on a connection, unless the server lets go of it.
+/// The condition that is awaited on a connection, unless the server lets go of it.
 #[derive(Clone, Copy)]
 enum Wanted {
     /// So many octets were heard on it, or a reply has closed it.
@@ -388,7 +388,7 @@ fn given_at(at: usize) -> Result<u64, TurnFault>
     (at as u64).checked_add(1).ok_or(TurnFault::Network)
 }
 
-/// What each connection was sent.
+/// Returns what each connection was sent.
 fn sent_on(alloc: Global, lines: Vec<CaptureConnection>) -> Result<Vec<Sent>, AllocError>
     ensures { IfOk result (λ sent. map sent_number sent.items ≡ map capture_number lines.items) }
 {
@@ -415,7 +415,7 @@ pub fn loop_back<T: Tables + Drop, W: Called<M> + Drop, M>(
     requires { IsTrue (is_above server.newest 0) }
     ensures sent { IfOk result
         (λ sent. map sent_number sent.items ≡ opened_numbers events.items) }
-    // What was done is a serving, by acts in which the events came about, in order.
+    // The work done is a serving, by acts in which the events came about, in order.
     ensures served { (rows : List Row) → Refines T.state rows server [] → OnOk result
         ((acts : List Act) × (left : W) × (last : ServerView T) × (hold : Hold)
         × ArePlayed [] nothing_held events.items acts

@@ -9,13 +9,13 @@ use dq_list::Listed;
 use std::alloc::{AllocError, Global};
 use std::collections::VecDeque;
 
-/// What calls are answered, each kind in its own order. Where nothing is left of a kind no
-/// connection comes, nothing is read, all octets are taken, and a connection is given up.
+/// The answers to calls, each kind in its own order. If none of a kind is left, no connection
+/// comes, nothing is read, all octets are taken, and a connection is given up.
 #[derive(Drop)]
 pub struct Script {
     pub accepts: VecDeque<Result<Option<usize>, WireFault>>,
-    /// What comes, each with the place at which it is read. Octets for which the buffer has no room
-    /// are lost.
+    /// The outcomes of reads, each with the place at which it is read. Octets for which the buffer
+    /// has no room are lost.
     pub reads: Vec<(usize, ReadOutcome)>,
     /// The number of octets that each write takes, if as many are offered.
     pub writes: VecDeque<Result<usize, WireFault>>,
@@ -38,7 +38,7 @@ impl Script {
         }
     }
 
-    // What comes next at a place.
+    // Takes what comes next at a place.
     fn take_read(&mut self, place: usize) -> ReadOutcome {
         match self.reads.iter().position(|read| read.0 == place) {
             None => ReadOutcome::Nothing,

@@ -86,7 +86,7 @@ enum Stage {
     Closing,
 }
 
-/// What the system may have for a connection.
+/// Flags for what the system may have for a connection.
 #[derive(Clone, Copy)]
 struct Readiness {
     is_readable: bool,
@@ -95,7 +95,7 @@ struct Readiness {
     is_ending: bool,
 }
 
-/// What a connection has of the reads that it shares with others of the same titles.
+/// A connection's share of the reads, which it shares with others of the same titles.
 #[derive(Clone, Copy)]
 struct Share {
     /// Its titles, if the first octets that came on it have them.

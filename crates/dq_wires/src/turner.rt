@@ -178,8 +178,8 @@ impl<T: Tables> Turner<T> {
         }
     }
 
-    /// What keys find among the records of the institution of a name, if there is one, and of that a
-    /// page. A fault stops the turner.
+    /// Returns a page of what keys find among the records of the institution of a name, if there is
+    /// one. A fault stops the turner.
     pub fn search(
         &mut self,
         name: &[u8],

@@ -9,9 +9,9 @@ use jiff::Timestamp;
 use std::fmt;
 use std::net::SocketAddr;
 
-/// What was served over an association: how many objects were stored, how many C-FINDs were
-/// answered and by how many answers, how many messages of performed procedure steps were taken, and
-/// how many messages were refused.
+/// Counts of what was served over an association: how many objects were stored, how many C-FINDs
+/// were answered and by how many answers, how many messages of performed procedure steps were
+/// taken, and how many messages were refused.
 #[derive(Clone, Copy, Default)]
 pub(crate) struct ServedCounts {
     stores: u64,

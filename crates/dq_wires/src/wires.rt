@@ -1,11 +1,11 @@
-//! What connections are made of.
+//! The wires that connections are made of.
 ghost use Rattle.std.specs.Prelude.{◌≡◌, ◌≤◌, ℕ, List, Option, length, IfOk};
 ghost use Rattle.dq_wires.specs.declared.calls.Call.{Call};
 ghost use Rattle.dq_wires.specs.Logs.{Logs, what_came, IfGot, failures_after_accept};
 
 use crate::calls::{Call, ReadTurn, WireFault};
 
-/// What accepts connections, and reads and writes their octets, without waiting.
+/// Accepts connections, and reads and writes their octets, without waiting.
 pub trait Wires {
     /// The calls so far with their answers, where they are told.
     ghost log: { Self → Option (List Call) };
