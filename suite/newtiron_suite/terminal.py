@@ -37,7 +37,7 @@ TIME = re.compile(r"\d{4}-\d\d-\d\dT\d\d:\d\d:\d\d(\.\d+)?Z|(?<=127\.0\.0\.1:)\d
 REFUSALS = {"config": 2, "capture": 3, "store": 4, "fault": 4, "network": 5}
 # What is made before a page is played: an image, and a store of version 1.
 GIVEN = {
-    "README.md": """printf '%s\\n' '(0008,0016) UI =CTImageStorage' '(0008,0018) UI [1.2.3.4.5]' \
+    "CONNECT.md": """printf '%s\\n' '(0008,0016) UI =CTImageStorage' '(0008,0018) UI [1.2.3.4.5]' \
 '(0008,0020) DA [20240705]' \\
         '(0010,0010) PN [DOE^JANE]' '(0010,0020) LO [P100]' '(0020,000d) UI [1.2.3]' \
 '(0020,000e) UI [1.2.3.4]' \\
@@ -45,7 +45,6 @@ GIVEN = {
         dump2dcm --write-xfer-little bin/image image.dcm""",
     "OPERATING.md": "cp suite/configurations/hospitals.toml . && suite/models version_1 rows.db",
 }
-GIVEN["CONNECT.md"] = GIVEN["README.md"]
 
 
 def blocks_of(text: str) -> Iterator[tuple[str | None, Any]]:

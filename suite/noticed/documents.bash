@@ -6,7 +6,7 @@ passes 'documents that are played' env PROGRAM="$program" "$documents" played
 for one in prints_nothing prints_half stops_half_way stops_at_once fails_at_the_end tells_more report_fails; do
     notices "documents: $one" 'GUIDE.md: ./run report' env PROGRAM="${!one}" "$documents" played
 done
-notices 'documents: two hospitals that share rows' 'README.md: findscu -S -aet CT2' env PROGRAM="$(server shares-rows)" "$documents" played
+notices 'documents: two hospitals that share rows' 'GUIDE.md: findscu -S -aet CT2' env PROGRAM="$(server shares-rows)" "$documents" played
 notices 'documents: orders that are forgotten' 'GUIDE.md: findscu -W' env PROGRAM="$(server console-forgets-orders)" "$documents" played
 notices 'documents: steps that start nothing' 'GUIDE.md: findscu -W' env PROGRAM="$(server starts-none)" "$documents" played
 notices 'documents: a migration that loses a row' 'OPERATING.md: dq_server report' env PROGRAM="$(server migrates-without-a-row)" \
@@ -16,9 +16,9 @@ if command -v Orthanc > /dev/null && command -v storescu > /dev/null; then
     notices 'documents: a PACS that forwards nothing' 'CONNECT: what Orthanc is sent' env PROGRAM="$program" "$silent/documents" forwarded
 fi
 notices 'documents: no program' 'played: there is no program' env PROGRAM=/nowhere "$documents" played
-none=$(without commands 'cp -r "$top/docs" "$top/README.md" ..; sed -i "s/^    \$ findscu/    findscu/" ../README.md')
-notices 'documents: commands that are not marked' 'README.md: what is no terminal' env PROGRAM="$program" "$none/documents" played
-none=$(without terminals 'cp -r "$top/docs" "$top/README.md" ..; sed -i "s/^    \$.*//" ../README.md')
+none=$(without commands 'cp -r "$top/docs" "$top/README.md" ..; sed -i "s/^    \$ findscu/    findscu/" ../docs/GUIDE.md')
+notices 'documents: commands that are not marked' 'GUIDE.md: what is no terminal' env PROGRAM="$program" "$none/documents" played
+none=$(without terminals 'cp -r "$top/docs" "$top/README.md" ..; sed -i "s/^    \$.*//" ../docs/GUIDE.md')
 notices 'documents: a terminal that is lost' 'played: ' env PROGRAM="$program" "$none/documents" played
 none=$(without true_words 'cp -r "$top/docs" "$top/README.md" ..; sed -i "s/entries 1 steps 1$/entries 1 steps 2/" ../docs/GUIDE.md')
 notices 'documents: a page that shows other lines' 'GUIDE.md: ./run report' env PROGRAM="$program" "$none/documents" played
