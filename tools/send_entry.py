@@ -1,10 +1,10 @@
 #!/usr/bin/env python3
-"""Schedules a worklist item on a server that was started with `--console PATH`, withdraws one, or
-has the server back up its store.
+"""Schedules a worklist item on a server that was started with `--console PATH`, withdraws one,
+prints what each institution keeps, or has the server back up its store.
 
 This file is all that is needed: copy it anywhere that has Python 3.9. It prints the server's
-answer, and exits with 0 for `done`, 1 for a refusal, and 2 if nothing was sent or there was no
-answer.
+answer, and exits with 0 for `done` or a report, 1 for a refusal, and 2 if nothing was sent or there
+was no answer.
 
   send_entry.py --console PATH INSTITUTION [FILE]            schedule the item in FILE, or on
                                                              standard input
@@ -12,6 +12,7 @@ answer.
                                                              Procedure Step ID
   send_entry.py --console PATH INSTITUTION --watch FOLDER    schedule every file that appears in
                                                              FOLDER, until stopped
+  send_entry.py --console PATH --report                      print how much each institution keeps
   send_entry.py --console PATH --backup FILE                 copy the server's store to FILE, which
                                                              must not exist
 
@@ -474,6 +475,16 @@ class Console:
             answer += more
         return answer.decode("latin-1").strip()
 
+    def report(self) -> str:
+        """The server's report, a line for each institution; an OSError if none comes."""
+        self.socket.sendall(b"report\n")
+        # (the server closes the console after its answers to a caller that sends no more)
+        self.socket.shutdown(socket.SHUT_WR)
+        lines = b"".join(iter(lambda: self.socket.recv(4096), b""))
+        if not lines.endswith(b"\n"):
+            raise ConnectionResetError("the server closed the console without a report")
+        return lines.decode("latin-1")
+
 
 def in_words(answer: str) -> str:
     """An answer with its meaning."""
@@ -642,7 +653,7 @@ def parser() -> argparse.ArgumentParser:
                                     formatter_class=argparse.RawDescriptionHelpFormatter,
                                     usage="%(prog)s --console PATH INSTITUTION [FILE | --withdraw "
                                           "ID | --watch FOLDER]\n"
-                                    "       %(prog)s --console PATH --backup FILE")
+                                    "       %(prog)s --console PATH (--report | --backup FILE)")
     words.add_argument("institution", metavar="INSTITUTION", nargs="?",
                        help="the institution's name in the configuration")
     words.add_argument("file", metavar="FILE", nargs="?",
@@ -653,6 +664,8 @@ def parser() -> argparse.ArgumentParser:
     other.add_argument("--withdraw", metavar="ID",
                        help="the Scheduled Procedure Step ID of the entry to take away")
     other.add_argument("--watch", metavar="FOLDER", help="the folder whose files are scheduled")
+    other.add_argument("--report", action="store_true",
+                       help="print how many records of each kind every institution keeps")
     other.add_argument("--backup", metavar="FILE",
                        help="a path on the server's machine where nothing is yet")
     return words
@@ -696,9 +709,10 @@ def send(options: argparse.Namespace) -> int:
 def main() -> int:
     words = parser()
     options = words.parse_args()
-    if options.backup is not None and options.institution is not None:
-        words.error("--backup goes with no INSTITUTION")
-    if options.backup is None and options.institution is None:
+    is_for_all = options.report or options.backup is not None
+    if is_for_all and options.institution is not None:
+        words.error("--report and --backup go with no INSTITUTION")
+    if not is_for_all and options.institution is None:
         words.error("the following arguments are required: INSTITUTION")
     if options.file is not None and (options.watch is not None or options.withdraw is not None):
         words.error("a FILE goes with neither --withdraw nor --watch")
@@ -708,6 +722,10 @@ def main() -> int:
     try:
         if options.backup is not None:
             return back_up(options)
+        if options.report:
+            with Console(options.console) as console:
+                print(console.report(), end="")
+            return 0
         if not re.fullmatch("[A-Z0-9_]{1,16}", options.institution):
             raise NotTaken(f"'{options.institution}' is no institution's name: 1 to 16 of A to Z, "
                            "0 to 9 and _")

@@ -49,6 +49,8 @@ tools_wrongly 'values that are not padded' 'readable lines: the line' send_entry
     's/        value += (b" " if vr in TEXT.*/        pass/' ../tools/send_entry.py
 tools_wrongly 'a refusal with another status' 'an item that is kept: what is printed' send_entry \
     's/"refused": 1}/"refused": 2}/' ../tools/send_entry.py
+tools_wrongly 'a report that is cut' 'a report: what is printed' send_entry \
+    's/iter(lambda: self.socket.recv(4096), b"")/[self.socket.recv(64)]/' ../tools/send_entry.py
 tools_wrongly 'a digest of something else' 'the digest of the token' web_key 's/sha256/sha512/' ../tools/web_key
 tools_wrongly 'a file that all may read' "a new file is its owner" web_key 's/0o600/0o644/' ../tools/web_key
 tools_wrongly 'a PDU that is not known' 'the end of an association' show \
