@@ -29,6 +29,8 @@ PORTS = ("11112", "8042")
 # What takes too long, or asks for rights: it is counted, and not played.
 LEFT_OUT = ("./build", "./test", "apt ")
 TOOLS = ("dump2dcm", "echoscu", "storescu", "findscu", "curl")
+# The names that tools have in the package.
+PACKAGED = {"newtiron-send": "send_entry.py", "newtiron-key": "web_key"}
 # The seconds that a command may take.
 LONGEST = 60
 TIME = re.compile(r"\d{4}-\d\d-\d\dT\d\d:\d\d:\d\d(\.\d+)?Z|(?<=127\.0\.0\.1:)\d+|\d+\.\d{3}(?= s "
@@ -111,6 +113,8 @@ class Terminal:
             path.parent.mkdir(exist_ok=True)
             path.write_text(f'#!/bin/sh\nexec "{program}" "$@"\n')
             path.chmod(0o755)
+        for name, tool in PACKAGED.items():
+            (self.folder / "bin" / name).symlink_to(TOP / "tools" / tool)
         self.environment = {**os.environ, "PATH": f"{self.folder / 'bin'}:{os.environ['PATH']}"}
         self.told = self.folder / "bin/told"
 
