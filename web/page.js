@@ -16,6 +16,7 @@ const REFUSALS = {
   full: "The disk is full.",
   failed: "No file can be written at this path.",
   memory: "The server has no memory for this.",
+  right: "This access token may not do this.",
   401: "This token does not open this institution.",
   404: "There is nothing of this name.",
   413: "This is too large.",

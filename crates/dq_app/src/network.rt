@@ -2,7 +2,7 @@
 ghost use Rattle.std.specs.Prelude.{◌≡◌, ℕ, List, [], Option, option_map, IfOk, IfSome, IsErrOf, OnErr};
 ghost use Rattle.std.specs.Option.{option_copied};
 ghost use Rattle.dq_cli.specs.CommandLine.{WebFront, web_front_in};
-ghost use Rattle.dq_web.specs.KeyFiles.{AreSpelled};
+ghost use Rattle.dq_web.specs.KeyFiles.{key_lines, AreSpelled};
 ghost use Rattle.dq_wires.specs.declared.given_up.Limits.{Limits};
 ghost use Rattle.dq_app.specs.Serving.{limit_of};
 
@@ -242,7 +242,7 @@ fn console_at(alloc: Global, rt: &HostRuntime, path: &str) -> Result<SocketWires
 /// The keys of a file.
 fn keys_of<F: Folder>(alloc: Global, folder: &F, path: &str) -> Result<Keys, ListenError>
     ensures { IfOk result (λ keys. IfSome (F.held folder.now path.now) (λ octets.
-        AreSpelled octets keys.entries)) }
+        AreSpelled (key_lines octets) keys.entries)) }
 {
     let octets = match folder.read_file(alloc, path) {
         Ok(octets) => octets,
@@ -261,7 +261,7 @@ fn keys_of<F: Folder>(alloc: Global, folder: &F, path: &str) -> Result<Keys, Lis
 /// The guard of a web front: the keys of its file, and its host.
 fn guard_of<F: Folder>(alloc: Global, folder: &F, web: Web<'_>) -> Result<Guard, ListenError>
     ensures keys { IfOk result (λ guard. IfSome (F.held folder.now web.entry.keys.now) (λ octets.
-        AreSpelled octets guard.keys.entries)) }
+        AreSpelled (key_lines octets) guard.keys.entries)) }
     ensures host { IfOk result (λ guard. guard.host ≡ option_copied web.entry.host) }
 {
     let keys = keys_of(alloc, folder, web.keys)?;

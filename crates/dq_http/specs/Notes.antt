@@ -1,5 +1,5 @@
--- The log's note of a request: the address that it came from, its method, its institution, the path below that without
--- its query, and the status of its response.
+-- The log's note of a request: the address that it came from, the label of the access token that let it in, its method,
+-- its institution, the path below that without its query, and the status of its response.
 use Rattle.std.specs.Prelude.{◌≡◌, ◌==◌, ℕ, ◌++◌, Bool, ◌||◌, ◌&&◌, if◌then◌else◌, List, [], ◌∷◌, take, drop, map, position, codes, Option, Some, None}
 use Rattle.std.specs.Char.{is_ascii_graphic, is_ascii_uppercase, is_ascii_digit}
 use Rattle.std.specs.Fmt.{decimal}
@@ -41,9 +41,9 @@ abbrev pub parts_of : List ℕ → List ℕ × List ℕ
 parts_of [] = ([], [])
 parts_of (slash ∷ rest) = named_at slash rest (position (λ octet. octet == 47) rest)
 
-abbrev pub words_text : Head → List ℕ
-words_text head = let parts = parts_of (path_of head.target.now) in
-    told_text head.method.now ++ codes " " ++ told_text parts.0 ++ codes " " ++ told_text parts.1
+abbrev pub words_text : List ℕ → Head → List ℕ
+words_text label head = let parts = parts_of (path_of head.target.now) in
+    told_text label ++ codes " " ++ told_text head.method.now ++ codes " " ++ told_text parts.0 ++ codes " " ++ told_text parts.1
 
 -- the address of a peer, and a hyphen where it is not known
 abbrev pub peer_text : Option SocketAddr → List ℕ

@@ -1,6 +1,8 @@
 -- The outcome for the octets that came from a connection.
 use Rattle.std.specs.Prelude.{◌≡◌, ℕ, true, false, IsTrue, List, Option, string_bytes}
 use Rattle.httpdate.specs.declared.date.HttpDate.{HttpDate}
+use Rattle.dq_web.specs.declared.parsed_request.Judgement.{Judgement}
+use Rattle.dq_web.specs.declared.parsed_request.Judgement.TheVariants as judgement
 use Rattle.dq_web.specs.declared.parsed_request.ParsedRequest.{ParsedRequest}
 use Rattle.dq_web.specs.declared.parsed_request.ParsedRequest.TheVariants as asked
 use Rattle.dq_web.specs.declared.parsed_request.Question.{Question}
@@ -13,13 +15,14 @@ use Rattle.dq_web.specs.declared.refusal.Refusal.TheVariants as refusal
 use Rattle.dq_web.specs.declared.replies.Framing.{Framing}
 use Rattle.dq_web.specs.declared.replies.Written.{Written}
 use Rattle.dq_web.specs.Answers.{IsWritten, refusal_reply, misspelled_reply, document_reply, health_reply}
-use Rattle.dq_web.specs.ParsedRequests.{IsAsked, IsQuestion, IsJudged}
+use Rattle.dq_web.specs.ParsedRequests.{IsAsked, IsQuestion, IsJudged, label_of}
 use Rattle.dq_web.specs.Requests.{IsCutOff, IsRequest, is_expecting, is_of_head}
 use Rattle.dq_http.specs.declared.http_state.Answer.{Answer}
 use Rattle.dq_http.specs.declared.http_state.RequestOutcome.{RequestOutcome}
 use Rattle.dq_http.specs.declared.http_state.RequestOutcome.TheVariants as outcome
 use Rattle.dq_http.specs.declared.http_state.Given.{Given}
 use Rattle.dq_http.specs.declared.http_state.Given.TheVariants as given
+use Rattle.dq_http.specs.Notes.{words_text}
 
 -- the response to a refusal
 abbrev pub IsRefusal : Refusal → Framing → Written → Type 0
@@ -40,20 +43,35 @@ IsGiven guard request framing (given.Response written) =
 IsGiven guard request framing (given.Question question) = (it : Question)
     × IsQuestion guard request it × (question ≡ record it { framing = framing })
 
--- an answer is that of the request which stands at the front of the octets (RFC 9112)
+-- One that is refused by its head is given that refusal.
+abbrev pub IsGivenAs : Judgement → Guard → HttpRequest → Framing → Given → Type 0
+IsGivenAs (judgement.Refused why) guard request framing (given.Response written) = IsRefusal why framing written
+IsGivenAs (judgement.Refused why) guard request framing (given.Question question) = ⊥
+IsGivenAs judgement guard request framing given = IsGiven guard request framing given
+
+-- an answer is that of the request which stands at the front of the octets (RFC 9112), and its words in the log have the
+-- label of the access token that let it in
 pub record IsAnswer (guard : Guard) (came : List ℕ) (answer : Answer) : Type 0 where
   pub request : HttpRequest
   pub framing : Framing
   pub stands : IsRequest came request
   pub last : framing.is_last ≡ request.head.is_last
   pub content : framing.is_head ≡ is_of_head request.head
-  pub given : IsGiven guard request framing answer.given
+  pub judgement : Judgement
+  pub judged : IsJudged guard request.head judgement
+  pub words : string_bytes answer.words ≡ words_text (label_of judgement) request.head
+  pub given : IsGivenAs judgement guard request framing answer.given
   pub extent : answer.extent ≡ request.extent
   pub ends : answer.is_last ≡ request.head.is_last
 
+abbrev pub IsRefused : Judgement → Type 0
+IsRefused (judgement.Refused refusal) = Unit {0}
+IsRefused judgement = ⊥
+
 -- a head whose body has not come is let in, and its key opens what it aims at
 abbrev pub IsAwaited : Guard → List ℕ → Head → Type 0
-IsAwaited guard came head = IsCutOff came (cut.Begun head) × IsJudged guard head
+IsAwaited guard came head = IsCutOff came (cut.Begun head)
+    × ((judgement : Judgement) × IsJudged guard head judgement × (IsRefused judgement → ⊥))
 
 -- the response to a request that did not come in the time that it has (RFC 9110 section 15.5.9)
 abbrev pub IsTooLate : Option HttpDate → Written → Type 0

@@ -3,7 +3,7 @@ ghost use Rattle.std.specs.Prelude.{◌≡◌, ℕ, List, map, IfOk};
 ghost use Rattle.dq_web.specs.Answers.{IsReplyTo, IsResponse};
 ghost use Rattle.dq_web.specs.Requests.{IsCutOff, IsRequest};
 ghost use Rattle.dq_web.specs.declared.cutting.Cut.TheVariants as cut;
-ghost use Rattle.dq_http.specs.RequestOutcomes.{IsGiven, IsAnswer, IsOutcome, IsTooLate};
+ghost use Rattle.dq_http.specs.RequestOutcomes.{IsGiven, IsGivenAs, IsAnswer, IsOutcome, IsTooLate};
 ghost use Rattle.dq_http.specs.InstitutionLimits.{limits_of};
 
 use crate::request_log::{UNREADABLE, words_of};
@@ -11,7 +11,7 @@ use dq_config::Institution;
 use dq_list::Listed;
 use dq_request::Response;
 use dq_web::{
-    Counters, Cut, Framing, Guard, Head, HttpRequest, ParsedRequest, Question, Refusal, Written,
+    Counters, Cut, Framing, Guard, Head, HttpRequest, Judgement, ParsedRequest, Question, Refusal, Written,
     answered, ask, cut_off, document, healthy, judge, misspelled, refused,
 };
 use httpdate::HttpDate;
@@ -141,13 +141,14 @@ impl HttpState {
             is_head: head.is_head(),
             date,
         };
-        match judge(self.alloc, &self.guard, head)? {
-            Some(refusal) => {
-                let words = words_of(self.alloc, head)?;
+        let judgement = judge(self.alloc, &self.guard, head)?;
+        match judgement {
+            Judgement::Refused(refusal) => {
+                let words = words_of(self.alloc, judgement.label(), head)?;
                 Ok(RequestOutcome::Refuse(words, refused(self.alloc, refusal, framing)?))
             }
-            None if head.is_expecting() => Ok(RequestOutcome::GoOn),
-            None => Ok(RequestOutcome::AwaitBody),
+            _ if head.is_expecting() => Ok(RequestOutcome::GoOn),
+            _ => Ok(RequestOutcome::AwaitBody),
         }
     }
 
@@ -166,7 +167,10 @@ impl HttpState {
     /// The words in the log of a request that has not come whole.
     pub(crate) fn words_of_begun(&self, came: &[u8]) -> Result<String, AllocError> {
         match cut_off(came) {
-            Cut::Begun(head) => words_of(self.alloc, &head),
+            Cut::Begun(head) => {
+                let judgement = judge(self.alloc, &self.guard, &head)?;
+                words_of(self.alloc, judgement.label(), &head)
+            }
             _ => String::from_str(self.alloc, UNREADABLE),
         }
     }
@@ -192,6 +196,23 @@ impl HttpState {
         }
     }
 
+    /// Returns what a request is given that is judged so by its head.
+    fn given_as(
+        &self,
+        judgement: Judgement<'_>,
+        request: &HttpRequest<'_>,
+        framing: Framing,
+    ) -> Result<Given, AllocError>
+        ensures { IfOk result (IsGivenAs judgement self.now.guard request.now framing) }
+    {
+        match judgement {
+            Judgement::Refused(refusal) => {
+                Ok(Given::Response(refused(self.alloc, refusal, framing)?))
+            }
+            Judgement::Open | Judgement::Opened(_) => self.given_for(request, framing),
+        }
+    }
+
     /// The answer to a request that is whole.
     fn answer_to(
         &self,
@@ -207,12 +228,12 @@ impl HttpState {
             is_head: request.head.is_head(),
             date,
         };
-        let words = words_of(self.alloc, &request.head)?;
+        let judgement = judge(self.alloc, &self.guard, &request.head)?;
         Ok(Answer {
-            words,
+            words: words_of(self.alloc, judgement.label(), &request.head)?,
             extent: request.extent,
             is_last,
-            given: self.given_for(request, framing)?,
+            given: self.given_as(judgement, request, framing)?,
         })
     }
 

@@ -89,13 +89,15 @@ fn parts_of(path: &[u8]) -> (&[u8], &[u8])
     }
 }
 
-/// The words of a request in a log: its method, its institution or a hyphen, and the path below that
-/// without its query.
-pub(crate) fn words_of(alloc: Global, head: &Head<'_>) -> Result<String, AllocError>
-    ensures { IfOk result (λ words. string_bytes words ≡ words_text head.now) }
+/// The words of a request in a log: the label of the access token that let it in, its method, its
+/// institution, each a hyphen if there is none, and the path below that without its query.
+pub(crate) fn words_of(alloc: Global, label: &[u8], head: &Head<'_>) -> Result<String, AllocError>
+    ensures { IfOk result (λ words. string_bytes words ≡ words_text label.now head.now) }
 {
     let (name, below) = parts_of(path_of(head.target));
     let mut text = String::new(alloc);
+    put_told(&mut text, label)?;
+    text.push(' ')?;
     put_told(&mut text, head.method)?;
     text.push(' ')?;
     put_told(&mut text, name)?;
@@ -105,7 +107,7 @@ pub(crate) fn words_of(alloc: Global, head: &Head<'_>) -> Result<String, AllocEr
 }
 
 /// The words of a request that cannot be read.
-pub(crate) const UNREADABLE: &str = "- - -";
+pub(crate) const UNREADABLE: &str = "- - - -";
 
 /// The address of a peer, or a hyphen where it is not known.
 fn peer_text(alloc: Global, peer: Option<SocketAddr>) -> Result<String, AllocError>

@@ -5,12 +5,13 @@ use Rattle.dq_request.specs.declared.request.Request.{Request}
 use Rattle.dq_request.specs.declared.request.Request.TheVariants as ask
 use Rattle.dq_request.specs.declared.search.Search.{Search}
 use Rattle.dq_request.specs.Searches.{TakesWords}
+use Rattle.dq_web.specs.declared.keys.Right.TheVariants as right
 use Rattle.dq_web.specs.declared.resource.Resource.{Resource}
 use Rattle.dq_web.specs.declared.resource.Resource.TheVariants.{Metrics, Backup, Counts, Studies, Series, Images, Worklist, Entry, Steps}
 use Rattle.dq_web.specs.declared.parsed_request.Method.{Method}
 use Rattle.dq_web.specs.declared.parsed_request.Method.TheVariants.{Get, Post, Delete, Other}
 use Rattle.dq_web.specs.declared.parsed_request.Method.TheVariants as method
-use Rattle.dq_web.specs.ParsedRequests.{IsMethod, owner_of, words_in, IsSearchAt, Searching, Looking, IsBackup, Posting, Deleting, Asks, IsLook, owner_of_request}
+use Rattle.dq_web.specs.ParsedRequests.{IsMethod, owner_of, words_in, IsSearchAt, Searching, Looking, IsBackup, Posting, Deleting, Asks, IsLook, owner_of_request, right_of, right_of_request}
 use Rattle.dq_web.specs.Resources.{IsPath, beneath}
 use Rattle.dq_web.proofs.Taking.{TakesWords-institution}
 
@@ -60,6 +61,58 @@ Asks-owner method.Head resource query body request asks = Looking-owner resource
 Asks-owner Post resource query body request asks = Posting-owner resource body request asks
 Asks-owner Delete resource query body request asks = Deleting-owner resource request asks
 Asks-owner Other resource query body request asks = absurd asks
+
+-- what is searched is read
+IsSearchAt-right : (resource : Resource) (start : Search) → IsSearchAt resource start
+    → right_of resource Get ≡ right.Read
+IsSearchAt-right (Studies name) start at = refl
+IsSearchAt-right (Series name study) start at = refl
+IsSearchAt-right (Images name study series) start at = refl
+IsSearchAt-right (Worklist name) start at = refl
+IsSearchAt-right (Steps name) start at = refl
+IsSearchAt-right resource start at = absurd at
+
+Searching-right : (resource : Resource) (query : List ℕ) (request : Request) → Searching resource query request
+    → right_of_request request ≡ right_of resource Get
+Searching-right resource query (ask.Search search) searching = sym (IsSearchAt-right resource searching.0 searching.1)
+Searching-right resource query request searching = absurd searching
+
+Looking-right : (resource : Resource) (query : List ℕ) (request : Request) → Looking resource query request
+    → right_of_request request ≡ right_of resource Get
+Looking-right (Counts name) query request is = ap right_of_request is
+Looking-right Metrics query request is = ap right_of_request is
+Looking-right resource query request searching = Searching-right resource query request searching
+
+-- HEAD needs what GET needs
+of-head : (resource : Resource) → right_of resource method.Head ≡ right_of resource Get
+of-head Metrics = refl
+of-head Backup = refl
+of-head resource = refl
+
+IsBackup-right : (body : List ℕ) (request : Request) → IsBackup body request
+    → right_of_request request ≡ right.Backup
+IsBackup-right body (ask.Backup path) is = refl
+IsBackup-right body request is = absurd is
+
+Posting-right : (resource : Resource) (body : List ℕ) (request : Request) → Posting resource body request
+    → right_of_request request ≡ right_of resource Post
+Posting-right (Worklist name) body request is = ap right_of_request is
+Posting-right Backup body request is = IsBackup-right body request is
+Posting-right resource body request is = absurd is
+
+Deleting-right : (resource : Resource) (request : Request) → Deleting resource request
+    → right_of_request request ≡ right_of resource Delete
+Deleting-right (Entry name id) request is = ap right_of_request is
+Deleting-right resource request is = absurd is
+
+-- the right that a request needs is that of its method at its resource
+pub Asks-right : (by : Method) (resource : Resource) (query body : List ℕ) (request : Request)
+    → Asks by resource query body request → right_of_request request ≡ right_of resource by
+Asks-right Get resource query body request asks = Looking-right resource query request asks
+Asks-right method.Head resource query body request asks = Looking-right resource query request asks ∙ sym (of-head resource)
+Asks-right Post resource query body request asks = Posting-right resource body request asks
+Asks-right Delete resource query body request asks = Deleting-right resource request asks
+Asks-right Other resource query body request asks = absurd asks
 
 Searching-look : (resource : Resource) (query : List ℕ) (request : Request) → Searching resource query request → IsLook request
 Searching-look resource query (ask.Search search) searching = tt

@@ -1,12 +1,14 @@
 -- Whom the front admits: by host, by origin and by key.
 use Rattle.std.specs.Prelude.{◌≡◌, ◌⊎◌, ℕ, ◌++◌, Bool, true, false, IsTrue, List, codes, Option, Some, None, option_copied}
 use Rattle.std.specs.Char.{is_ascii_digit}
-use Rattle.std.specs.List.{list_all, list_any}
+use Rattle.std.specs.List.{list_all}
 use Rattle.std.specs.Str.{trim_start}
 use Rattle.sha2.specs.Sha256.{sha256}
 use Rattle.dq_web.specs.declared.cutting.Fields.{Fields}
 use Rattle.dq_web.specs.declared.keys.Keys.{Keys}
-use Rattle.dq_web.specs.KeyFiles.{opens}
+use Rattle.dq_web.specs.declared.keys.KeyEntry.{KeyEntry}
+use Rattle.dq_web.specs.declared.keys.Right.{Right}
+use Rattle.dq_web.specs.KeyFiles.{entry_for}
 use Rattle.dq_web.specs.Requests.{is_named}
 
 -- a Host is this one, in letters of either case, with or without a port (RFC 9110 sections 4.2.3 and 7.2)
@@ -59,7 +61,11 @@ TellsKey authorization key = (scheme : List ℕ) × (rest : List ℕ)
     × (authorization ≡ Some (scheme ++ (codes " " ++ rest)))
     × IsTrue (is_named scheme (codes "bearer")) × (key ≡ trim_start rest)
 
--- it tells a key that is one of this name's
-abbrev pub IsOpened : Keys → List ℕ → Option (List ℕ) → Type 0
-IsOpened keys name authorization = (key : List ℕ) × TellsKey authorization key
-    × IsTrue (list_any (opens name (sha256 key)) keys.entries)
+-- it tells a key of this name with this right, of which this is the first entry
+abbrev pub IsOpenedBy : Keys → List ℕ → Right → Option (List ℕ) → KeyEntry → Type 0
+IsOpenedBy keys name right authorization entry = (key : List ℕ) × TellsKey authorization key
+    × (entry_for keys.entries name right (sha256 key) ≡ Some entry)
+
+abbrev pub IsOpened : Keys → List ℕ → Right → Option (List ℕ) → Type 0
+IsOpened keys name right authorization =
+    (entry : KeyEntry) × IsOpenedBy keys name right authorization entry

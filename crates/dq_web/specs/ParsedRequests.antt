@@ -19,9 +19,13 @@ use Rattle.dq_web.specs.declared.cutting.Fields.{Fields}
 use Rattle.dq_web.specs.declared.cutting.Head.{Head}
 use Rattle.dq_web.specs.declared.cutting.HttpRequest.{HttpRequest}
 use Rattle.dq_web.specs.declared.guard.Guard.{Guard}
+use Rattle.dq_web.specs.declared.keys.Right.{Right}
+use Rattle.dq_web.specs.declared.keys.Right.TheVariants as right
 use Rattle.dq_web.specs.declared.resource.Resource.{Resource}
 use Rattle.dq_web.specs.declared.resource.Resource.TheVariants.{Page, Style, Script, Health, Metrics, Backup, Counts, Studies, Series, Images, Unsearched, Worklist, Entry, Steps}
 use Rattle.dq_web.specs.declared.parsed_request.Aim.{Aim}
+use Rattle.dq_web.specs.declared.parsed_request.Judgement.{Judgement}
+use Rattle.dq_web.specs.declared.parsed_request.Judgement.TheVariants as judgement
 use Rattle.dq_web.specs.declared.parsed_request.ParsedRequest.{ParsedRequest}
 use Rattle.dq_web.specs.declared.parsed_request.ParsedRequest.TheVariants as asked
 use Rattle.dq_web.specs.declared.parsed_request.Document.{Document}
@@ -33,7 +37,7 @@ use Rattle.dq_web.specs.declared.parsed_request.Question.{Question}
 use Rattle.dq_web.specs.declared.parsed_request.Wanted.{Wanted}
 use Rattle.dq_web.specs.declared.parsed_request.Wanted.TheVariants as wanted
 use Rattle.dq_web.specs.declared.parsed_request.Wish.{Wish}
-use Rattle.dq_web.specs.Guards.{IsAdmitted, IsOpened}
+use Rattle.dq_web.specs.Guards.{IsAdmitted, IsOpenedBy, IsOpened}
 use Rattle.dq_web.specs.Resources.{IsPath, beneath}
 
 -- no space, no control and nothing past ASCII: 21H to 7EH
@@ -73,6 +77,18 @@ owner_of (Worklist name) = name.now
 owner_of (Entry name id) = name.now
 owner_of (Steps name) = name.now
 owner_of resource = codes "*"
+
+-- the right that a method needs at an institution's resource: what it looks at is read, and all else are orders
+abbrev pub institution_right : Method → Right
+institution_right Post = right.Order
+institution_right Delete = right.Order
+institution_right by = right.Read
+
+-- at a resource
+abbrev pub right_of : Resource → Method → Right
+right_of Metrics by = right.Metrics
+right_of Backup by = right.Backup
+right_of resource by = institution_right by
 
 -- ---- searches
 
@@ -210,6 +226,15 @@ owner_of_request (ask.Schedule institution octets) = institution
 owner_of_request (ask.Withdraw institution id) = institution
 owner_of_request (ask.Backup path) = codes "*"
 
+-- the right that it needs
+abbrev pub right_of_request : Request → Right
+right_of_request (ask.Search search) = right.Read
+right_of_request (ask.Counts name) = right.Read
+right_of_request ask.Report = right.Metrics
+right_of_request (ask.Schedule institution octets) = right.Order
+right_of_request (ask.Withdraw institution id) = right.Order
+right_of_request (ask.Backup path) = right.Backup
+
 -- ---- who may ask
 
 abbrev pub has_no_slash : ℕ → Bool
@@ -255,10 +280,18 @@ is_open Script = true
 is_open Health = true
 is_open resource = false
 
--- a head is let in, and the resource is open to all, or the key opens it
-abbrev pub IsJudged : Guard → Head → Type 0
-IsJudged guard head = (aim : Aim) × IsLetIn guard head aim
-    × (IsTrue (is_open aim.resource) ⊎ IsOpened guard.keys (owner_of aim.resource) (option_copied head.fields.authorization))
+-- a head is let in, and the resource is open to all, or this entry's key opens it
+abbrev pub IsJudged : Guard → Head → Judgement → Type 0
+IsJudged guard head (judgement.Refused refusal) = Unit {0}
+IsJudged guard head judgement.Open = (aim : Aim) × IsLetIn guard head aim × IsTrue (is_open aim.resource)
+IsJudged guard head (judgement.Opened entry) = (aim : Aim) × IsLetIn guard head aim
+    × IsOpenedBy guard.keys (owner_of aim.resource) (right_of aim.resource aim.method)
+    (option_copied head.fields.authorization) entry.now
+
+-- the label of the key that let a head in, if it has one
+abbrev pub label_of : Judgement → List ℕ
+label_of (judgement.Opened entry) = entry.now.label
+label_of judgement = []
 
 -- a part of a query asks for fuzzy matching (PS3.18 section 8.3.4.2)
 abbrev pub is_fuzzy : List ℕ → Bool
@@ -273,12 +306,12 @@ wish_of fields query = record {
   has_unknown = list_any is_unknown (parts_of query);
 }
 
--- A request of HTTP asks a question: it is let in, its key opens the resource, its path, method, query and body say what
+-- A request of HTTP asks a question: it is let in, its key opens the resource and may do what is asked, its path, method, query and body say what
 -- is asked, and JSON is accepted where a search is.
 pub record IsQuestion (guard : Guard) (request : HttpRequest) (question : Question) : Type 0 where
   pub aim : Aim
   pub let_in : IsLetIn guard request.head aim
-  pub opened : IsOpened guard.keys (owner_of aim.resource) (option_copied request.head.fields.authorization)
+  pub opened : IsOpened guard.keys (owner_of aim.resource) (right_of aim.resource aim.method) (option_copied request.head.fields.authorization)
   pub asks : Asks aim.method aim.resource aim.query.now request.body.now question.asked
   pub wish : question.wish ≡ wish_of request.head.fields aim.query.now
   pub accepted : IsAccepted question.asked request.head.fields
@@ -287,7 +320,7 @@ pub record IsQuestion (guard : Guard) (request : HttpRequest) (question : Questi
 pub record IsMisspelled (guard : Guard) (request : HttpRequest) (word : List ℕ) : Type 0 where
   pub aim : Aim
   pub let_in : IsLetIn guard request.head aim
-  pub opened : IsOpened guard.keys (owner_of aim.resource) (option_copied request.head.fields.authorization)
+  pub opened : IsOpened guard.keys (owner_of aim.resource) (right_of aim.resource aim.method) (option_copied request.head.fields.authorization)
   pub by_get : IsGet aim.method
   pub at : IsMisspelledAt aim.resource aim.query.now word
 

@@ -1,12 +1,12 @@
 //! Whom the front admits: by host, by origin and by key.
-ghost use Rattle.std.specs.Prelude.{◌≡◌, ◌++◌, codes, Some, IsTrue, OnOk, IfSome, option_copied};
+ghost use Rattle.std.specs.Prelude.{◌≡◌, ◌++◌, codes, Some, IsTrue, IfOk, OnOk, IfSome, option_copied};
 ghost use Rattle.std.specs.Char.{is_ascii_digit};
 ghost use Rattle.std.specs.List.{list_all};
-ghost use Rattle.dq_web.specs.Guards.{IsAt, IsKnownHost, IsOrigin, IsSameOrigin, IsSameSite, IsAllowedSite, IsAdmitted, TellsKey, IsOpened};
+ghost use Rattle.dq_web.specs.Guards.{IsAt, IsKnownHost, IsOrigin, IsSameOrigin, IsSameSite, IsAllowedSite, IsAdmitted, TellsKey, IsOpenedBy};
 ghost use Rattle.dq_web.specs.Requests.{is_named};
 
 use crate::cutting::{Fields, is_named};
-use crate::keys::{Keys, at_space};
+use crate::keys::{KeyEntry, Keys, Right, at_space};
 use crate::refusal::Refusal;
 use crate::resource::behind;
 use dq_list::Listed;
@@ -181,18 +181,19 @@ impl Guard {
         check_opening(is_page, fields)
     }
 
-    /// Refuses a request without a key that opens the name.
-    pub(crate) fn open(&self, name: &[u8], authorization: Option<&[u8]>) -> Result<(), Refusal>
-        ensures { OnOk result
-            (IsOpened self.now.keys name.now (option_copied authorization.entry)) }
+    /// The entry whose key opens the name with a right. A request without such a key is refused.
+    pub(crate) fn open(
+        &self,
+        name: &[u8],
+        right: Right,
+        authorization: Option<&[u8]>,
+    ) -> Result<&KeyEntry, Refusal>
+        ensures { IfOk result (λ entry. IsOpenedBy self.now.keys name.now right
+            (option_copied authorization.entry) entry.now) }
     {
-        let Some(key) = key_in(authorization) else {
-            return Err(Refusal::Key);
-        };
-        if self.keys.allow(name, key) {
-            Ok(())
-        } else {
-            Err(Refusal::Key)
+        match key_in(authorization) {
+            Some(key) => self.keys.entry_for(name, right, key),
+            None => Err(Refusal::Key),
         }
     }
 }

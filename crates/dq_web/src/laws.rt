@@ -8,13 +8,14 @@ ghost use Rattle.dq_web.specs.declared.parsed_request.ParsedRequest.TheVariants 
 ghost use Rattle.dq_web.specs.declared.parsed_request.Question.{Question};
 ghost use Rattle.dq_web.specs.declared.cutting.HttpRequest.{HttpRequest};
 ghost use Rattle.dq_web.specs.declared.guard.Guard.{Guard};
-ghost use Rattle.dq_web.specs.ParsedRequests.{IsAsked, IsQuestion, IsLook, IsBelow, IsScheduling, IsWithdrawing, IsBackingUp, owner_of_request};
+ghost use Rattle.dq_web.specs.ParsedRequests.{IsAsked, IsQuestion, IsLook, IsBelow, IsScheduling, IsWithdrawing, IsBackingUp, owner_of_request, right_of_request};
 ghost use Rattle.dq_web.specs.Guards.{IsOpened};
 
-/// Without a key of the institution that it names, or of the operator where it names none, nothing is asked.
+/// Without a key of the institution that it names, or of the operator where it names none, that may do what is
+/// asked, nothing is asked.
 pub fn a_question_has_its_key()
     ensures { (guard : Guard) (request : HttpRequest) (question : Question)
-        → (IsOpened guard.keys (owner_of_request question.asked)
+        → (IsOpened guard.keys (owner_of_request question.asked) (right_of_request question.asked)
         (option_copied request.head.fields.authorization) → ⊥)
         → IsAsked guard request (asked.Question question) → ⊥ }
 {}

@@ -1,14 +1,15 @@
 //! The questions that HTTP requests ask of the server.
-ghost use Rattle.std.specs.Prelude.{◌≡◌, ◌==◌, ◌++◌, ◌∷◌, [], ◌||◌, codes, Some, IsTrue, IfOk, OnOk, IfNone, MatchOption, MatchBool, is_some, option_copied};
+ghost use Rattle.std.specs.Prelude.{◌≡◌, ◌==◌, ◌++◌, ◌∷◌, [], ◌||◌, codes, Some, IsTrue, IfOk, OnOk, MatchOption, MatchBool, is_some, option_copied};
 ghost use Rattle.std.specs.List.{list_all, list_any, starts_with};
 ghost use Rattle.std.specs.Str.{bytes_eq};
 ghost use Rattle.percent_encoding.specs.Percent.{percent_decode};
+ghost use Rattle.dq_web.specs.Guards.{IsOpenedBy};
 ghost use Rattle.dq_request.specs.Searches.{TakesWords, StopsAt, name_in};
-ghost use Rattle.dq_web.specs.ParsedRequests.{is_visible, is_printable, is_silent, is_attribute, is_unknown, is_left_out, parts_of, words_among, words_in, uid_key, hundred_of, series_of, images_of, IsSearchAt, owner_of, IsPathAndQuery, IsTarget, IsMethod, IsLooked, IsBackup, Posting, Deleting, IsWanted, has_no_slash, is_plain_segment, is_plain_path, is_page, IsLetIn, IsJudged, is_fuzzy, wish_of, IsAsked};
+ghost use Rattle.dq_web.specs.ParsedRequests.{is_visible, is_printable, is_silent, is_attribute, is_unknown, is_left_out, parts_of, words_among, words_in, uid_key, hundred_of, series_of, images_of, IsSearchAt, owner_of, right_of, IsPathAndQuery, IsTarget, IsMethod, IsLooked, IsBackup, Posting, Deleting, IsWanted, has_no_slash, is_plain_segment, is_plain_path, is_page, IsLetIn, IsJudged, label_of, is_fuzzy, wish_of, IsAsked};
 
 use crate::cutting::{Fields, Head, HttpRequest};
 use crate::guard::Guard;
-use crate::keys::OPERATOR;
+use crate::keys::{KeyEntry, OPERATOR, Right};
 use crate::refusal::{Allowed, Refusal};
 use crate::replies::Framing;
 use crate::resource::{Resource, at_slash, behind, resource_of};
@@ -77,6 +78,16 @@ pub struct Aim<'a> {
     pub resource: Resource<'a>,
     pub method: Method,
     pub query: &'a str,
+}
+
+/// The judgement of a head.
+#[derive(Clone, Copy)]
+pub enum Judgement<'a> {
+    Refused(Refusal),
+    /// Everybody may see what it aims at.
+    Open,
+    /// The key of this entry opens what it aims at.
+    Opened(&'a KeyEntry),
 }
 
 /// The result of reading a path, a method, a query and a body.
@@ -286,6 +297,18 @@ fn owner_of<'a>(resource: Resource<'a>) -> &'a [u8]
         | Resource::Entry(name, _)
         | Resource::Steps(name) => name.as_bytes(),
         _ => OPERATOR,
+    }
+}
+
+/// The right that a method needs at a resource.
+fn right_of(resource: Resource<'_>, method: Method) -> Right
+    ensures { result ≡ right_of resource.entry method }
+{
+    match (resource, method) {
+        (Resource::Metrics, _) => Right::Metrics,
+        (Resource::Backup, _) => Right::Backup,
+        (_, Method::Post | Method::Delete) => Right::Order,
+        _ => Right::Read,
     }
 }
 
@@ -603,6 +626,16 @@ fn let_in<'a>(alloc: Global, guard: &Guard, head: &Head<'a>) -> Result<Aim<'a>, 
     })
 }
 
+/// The entry whose key opens what a head aims at.
+fn entry_for<'a>(guard: &'a Guard, aim: Aim<'_>, head: &Head<'_>) -> Result<&'a KeyEntry, Refusal>
+    ensures { IfOk result (λ entry. IsOpenedBy guard.now.keys (owner_of aim.entry.resource)
+        (right_of aim.entry.resource aim.entry.method) (option_copied head.now.fields.authorization)
+        entry.now) }
+{
+    let right = right_of(aim.resource, aim.method);
+    guard.open(owner_of(aim.resource), right, head.fields.authorization)
+}
+
 /// A question, before its framing is known.
 fn question_of(asked: Request, wish: Wish) -> Question
     ensures asked { result.asked ≡ asked }
@@ -634,7 +667,7 @@ fn answer_for(
         Resource::Script => Ok(ParsedRequest::Document(Document::Script)),
         Resource::Health => Ok(ParsedRequest::Health),
         _ => {
-            guard.open(owner_of(aim.resource), request.head.fields.authorization)?;
+            entry_for(guard, aim, &request.head)?;
             match wanted_by(alloc, aim, &request.head.fields, request.body)? {
                 Wanted::Request(asked) => {
                     let wish = wish_of(&request.head.fields, aim.query);
@@ -648,7 +681,7 @@ fn answer_for(
 
 /// Returns what a request asks of the server, what else answers it, or why it is refused: a host
 /// that is not the front's, a page of another origin, a path, a method, or a key that does not open
-/// the path.
+/// the path or may not do there what is asked.
 pub fn ask(
     alloc: Global,
     guard: &Guard,
@@ -663,24 +696,46 @@ pub fn ask(
     }
 }
 
-/// Refuses a head that is not let in, or whose key does not open the resource.
-fn check_head(alloc: Global, guard: &Guard, head: &Head<'_>) -> Result<(), Unasked>
-    ensures { OnOk result (IsJudged guard.now head.now) }
+/// Returns the judgement of a head that is not refused: it is let in, and may see what it aims at.
+fn judgement_of<'a>(
+    alloc: Global,
+    guard: &'a Guard,
+    head: &Head<'_>,
+) -> Result<Judgement<'a>, Unasked>
+    ensures { IfOk result (IsJudged guard.now head.now) }
 {
     let aim = let_in(alloc, guard, head)?;
     match aim.resource {
-        Resource::Page | Resource::Style | Resource::Script | Resource::Health => Ok(()),
-        _ => Ok(guard.open(owner_of(aim.resource), head.fields.authorization)?),
+        Resource::Page | Resource::Style | Resource::Script | Resource::Health => {
+            Ok(Judgement::Open)
+        }
+        _ => Ok(Judgement::Opened(entry_for(guard, aim, head)?)),
     }
 }
 
-/// Why a request is refused by its head, before its body has come, if it is.
-pub fn judge(alloc: Global, guard: &Guard, head: &Head<'_>) -> Result<Option<Refusal>, AllocError>
-    ensures { IfOk result (λ refusal. IfNone refusal (IsJudged guard.now head.now)) }
+/// Returns the judgement of a request by its head, before its body has come.
+pub fn judge<'a>(
+    alloc: Global,
+    guard: &'a Guard,
+    head: &Head<'_>,
+) -> Result<Judgement<'a>, AllocError>
+    ensures { IfOk result (IsJudged guard.now head.now) }
 {
-    match check_head(alloc, guard, head) {
-        Ok(()) => Ok(None),
-        Err(Unasked::Refused(refusal)) => Ok(Some(refusal)),
+    match judgement_of(alloc, guard, head) {
+        Ok(judgement) => Ok(judgement),
+        Err(Unasked::Refused(refusal)) => Ok(Judgement::Refused(refusal)),
         Err(Unasked::NoMemory) => Err(AllocError),
+    }
+}
+
+impl<'a> Judgement<'a> {
+    /// Returns the label of the key that let the head in, which is empty if it has none.
+    pub fn label(self) -> &'a [u8]
+        ensures { result.now ≡ label_of self }
+    {
+        match self {
+            Judgement::Opened(entry) => entry.label.as_slice(),
+            Judgement::Refused(_) | Judgement::Open => &[],
+        }
     }
 }

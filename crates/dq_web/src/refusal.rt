@@ -32,6 +32,8 @@ pub enum Refusal {
     Method(Allowed),
     /// The key does not open the path.
     Key,
+    /// The key opens the path, and may not do what is asked there.
+    Right,
     /// The resource at the path is in no form that is accepted.
     Accept,
     /// The search is not supported.
@@ -67,6 +69,7 @@ impl Refusal {
             Refusal::Path => "path",
             Refusal::Method(_) => "method",
             Refusal::Key => "key",
+            Refusal::Right => "right",
             Refusal::Accept => "accept",
             Refusal::Unsupported => "unsupported",
             Refusal::Time => "time",

@@ -94,6 +94,7 @@ impl Status {
             Refusal::Path => Status::NotFound,
             Refusal::Method(allowed) => Status::MethodNotAllowed(allowed),
             Refusal::Key => Status::Unauthorized,
+            Refusal::Right => Status::Forbidden,
             Refusal::Accept => Status::NotAcceptable,
             Refusal::Unsupported => Status::NotImplemented,
             Refusal::Time => Status::RequestTimeout,

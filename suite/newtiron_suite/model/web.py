@@ -34,6 +34,8 @@ PATHS = [
 # What belongs to nobody, and what is the operator's.
 OPEN = {"/": "text/html", "/page.css": "text/css", "/page.js": "text/javascript", "/health": TEXT}
 OPERATORS = {"/metrics": "GET", "/backup": "POST"}
+# The right that is needed for what is asked; whatever else is asked is read.
+RIGHTS = {"schedule": "order", "withdraw": "order", "/metrics": "metrics", "/backup": "backup"}
 # What a response says where fuzzy matching was asked for (PS3.18 section 8.3.4.2).
 LITERAL = ('299 newtiron "The fuzzymatching parameter is not supported. Only literal matching has '
            'been performed."')
@@ -212,11 +214,12 @@ def key_in(fields: Any) -> Any:
 
 class Front:
     """The front over the institutions of a model, with a key for each name, and `*` for the
-    operator."""
+    operator. A key that has only one right is in `limited`, after its name and the right."""
 
     def __init__(self, institutions: list[Institution], keys: dict[str, str],
                  host: str | None = None) -> None:
         self.institutions, self.keys = {one.name: one for one in institutions}, keys
+        self.limited: list[tuple[str, str, str]] = []
         self.hosts = {"127.0.0.1", "localhost", "[::1]"} | ({host} if host else set())
 
     def answer(self, method: str, target: str, fields: dict[str, str], body: bytes = b"",
@@ -251,9 +254,13 @@ class Front:
         if looking(method) not in methods:
             return refused(405, "method",
                            Allow=", ".join("GET, HEAD" if one == "GET" else one for one in methods))
-        return None if path in OPEN or self.is_opened(name, fields) else refused(401, "key",
-                                                                                 **{
-            "WWW-Authenticate": "Bearer"})
+        if path in OPEN:
+            return None
+        rights = self.rights(name, fields)
+        if not rights:
+            return refused(401, "key", **{"WWW-Authenticate": "Bearer"})
+        needed = RIGHTS.get(methods[looking(method)], "read")
+        return None if {None, needed} & rights else refused(403, "right")
 
     def not_admitted(self, host: str | None, path: str, fields: Any) -> Any:
         """The refusal of another host, or of a page of another origin; the page itself may be
@@ -268,9 +275,13 @@ class Front:
         return None if site in (None, "same-origin",
                                 "none") or is_opening else refused(403, "origin")
 
-    def is_opened(self, name: str, fields: dict[str, str]) -> bool:
+    def rights(self, name: str, fields: dict[str, str]) -> set[str | None]:
+        """The rights of the given key with a name: none where it does not open that; None is all
+        that the name has."""
         given = key_in(fields)
-        return given is not None and self.keys.get(name) == given
+        lines = [(name, None, self.keys.get(name)), *self.limited]
+        return {right for whose, right, key in lines
+                if given is not None and (whose, key) == (name, given)}
 
     @staticmethod
     def perform(institution: Institution, subject: str, words: tuple[str, ...], query: str,

@@ -35,7 +35,9 @@ FIXED = {"Cache-Control": "no-store", "X-Content-Type-Options": "nosniff",
                                     "connect-src 'self'; base-uri 'none'; "
                                     "form-action 'none'; frame-ancestors 'none'"}
 TOKEN = rb"[!#$%&'*+.^_`|~0-9A-Za-z-]+"
-KEY_LINE = re.compile(r"(\*|[A-Z0-9_]{1,16}) ([0-9a-fA-F]{64})")
+KEY_LINE = re.compile(r"(?:(?P<name>[A-Z0-9_]{1,16})(?: (?P<right>read|order))?"
+                      r"|\*(?: (?P<server>metrics|backup))?)"
+                      r" (?P<digest>[0-9a-fA-F]{64})(?: [A-Za-z0-9_.-]{1,32})?")
 # The fields that count, each of which may stand once.
 SINGLE = {"host", "content-length", "transfer-encoding", "authorization", "origin",
           "sec-fetch-site", "sec-fetch-dest", "expect"}
@@ -62,9 +64,13 @@ class BadKeys(Exception):
     """A file that tells no keys."""
 
 
-def read_keys(path: str) -> dict[str, set[str]]:
-    """The names of the keys' digests."""
-    found = {}
+# The names and the rights of keys, by their digests; a right of None is all that the name has.
+Digests = dict[str, set[tuple[str, str | None]]]
+
+
+def read_keys(path: str) -> Digests:
+    """The keys of a file."""
+    found: Digests = {}
     try:
         lines = pathlib.Path(path).read_bytes().decode().split("\n")
     except (OSError, UnicodeDecodeError):
@@ -75,7 +81,8 @@ def read_keys(path: str) -> dict[str, set[str]]:
             key = KEY_LINE.fullmatch(line)
             if key is None:
                 raise BadKeys(number)
-            found.setdefault(key[2].lower(), set()).add(key[1])
+            found.setdefault(key["digest"].lower(), set()).add(
+                (key["name"] or "*", key["right"] or key["server"]))
     if not found:
         raise BadKeys(0)
     return found
@@ -148,15 +155,14 @@ def check_start(line: bytes | None, octets: bytes) -> re.Match[bytes] | None:
 class Keyed(web.Front):
     """The model's front, which knows digests of keys."""
 
-    def __init__(self, institutions: list[Institution], digests: dict[str, set[str]],
-                 host: str) -> None:
+    def __init__(self, institutions: list[Institution], digests: Digests, host: str) -> None:
         super().__init__(institutions, {}, host)
         self.digests = digests
 
-    def is_opened(self, name: str, fields: dict[str, str]) -> bool:
+    def rights(self, name: str, fields: dict[str, str]) -> set[str | None]:
         given = web.key_in(fields)
-        return (given is not None
-                and name in self.digests.get(hashlib.sha256(given.encode()).hexdigest(), ()))
+        known = self.digests.get(hashlib.sha256((given or "").encode()).hexdigest(), set())
+        return {right for whose, right in known if given is not None and whose == name}
 
 
 class Caller:
@@ -185,7 +191,7 @@ class Counters:
 class WebService:
     """The front beside the service of associations, whose events are `keeping`'s."""
 
-    def __init__(self, keeping: Keeping, digests: dict[str, set[str]], address: tuple[str, int],
+    def __init__(self, keeping: Keeping, digests: Digests, address: tuple[str, int],
                  host: str) -> None:
         self.keeping, self.counters, self.callers = keeping, Counters(), []
         self.front = Keyed(keeping.server.institutions, digests, host)

@@ -103,8 +103,8 @@ def late(tally: Tally, folder: pathlib.Path) -> None:
                         and (response is None or response.fields.get("connection") == "close"),
                         response and response.head)
         tally.check("the log has them", until(lambda: len(re.findall(
-            r" web \S+ - - - 408 ms 15\d{3}\n", log.read_text())) == 3
-            and len(re.findall(r" web \S+ POST NORTH /worklist 408 ms 60\d{3}\n",
+            r" web \S+ - - - - 408 ms 15\d{3}\n", log.read_text())) == 3
+            and len(re.findall(r" web \S+ - POST NORTH /worklist 408 ms 60\d{3}\n",
                                log.read_text())) == 1, 5), log.read_text())
         pair.is_right(tally, "late")
 

@@ -155,32 +155,45 @@ def backup(tally: Tally, folder: pathlib.Path) -> None:
 
 def log(tally: Tally, folder: pathlib.Path) -> None:
     path = folder / "log"
-    with Pair(folder, "--log-file", path) as pair:
+    limited = [("NORTH", "read", "desk-1"), ("SOUTH", "read", "ris.2"), ("*", "metrics", "watch")]
+    with Pair(folder, "--log-file", path, limited=limited) as pair:
         pair.fill()
-        plays = [("GET", "/NORTH/rs/studies?PatientName=SECRET*", "NORTH", None,
-                  "NORTH /rs/studies 204"),
-                 ("GET", "/NORTH/worklist", "NORTH", None, "NORTH /worklist 200"),
-                 ("GET", "/NORTH/worklist", None, None, "NORTH /worklist 401"),
-                 ("POST", "/NORTH/worklist", "NORTH", entry_octets("SECRET"),
-                  "NORTH /worklist 201"),
-                 ("GET", "/SOUTH/counts", "SOUTH", None, "SOUTH /counts 200")]
+        north, south = pair.keys["NORTH"], pair.keys["SOUTH"]
+        desk, ris, watch = [key for _, _, key in pair.front.limited]
+        plays = [("GET", "/NORTH/rs/studies?PatientName=SECRET*", north, None,
+                  "- GET NORTH /rs/studies 204"),
+                 ("GET", "/NORTH/worklist", north, None, "- GET NORTH /worklist 200"),
+                 ("GET", "/NORTH/worklist", None, None, "- GET NORTH /worklist 401"),
+                 ("POST", "/NORTH/worklist", north, entry_octets("SECRET"),
+                  "- POST NORTH /worklist 201"),
+                 ("GET", "/SOUTH/counts", south, None, "- GET SOUTH /counts 200"),
+                 # the label of the token that let the request in, even if it is refused then
+                 ("GET", "/NORTH/counts", desk, None, "desk-1 GET NORTH /counts 200"),
+                 ("GET", "/NORTH/worklist?limit=x", desk, None, "desk-1 GET NORTH /worklist 400"),
+                 ("GET", "/SOUTH/steps", ris, None, "ris.2 GET SOUTH /steps 200"),
+                 ("GET", "/metrics", watch, None, "watch GET - /metrics 200"),
+                 # tokens that let nothing in
+                 ("GET", "/SOUTH/counts", desk, None, "- GET SOUTH /counts 401"),
+                 ("DELETE", "/NORTH/worklist/S1", desk, None,
+                  "- DELETE NORTH /worklist/S1 403"),
+                 ("GET", "/", desk, None, "- GET - / 200")]
         begin = len(path.read_bytes())
-        for method, target, name, body, _ in plays:
-            pair.ask(method, target, name, body=body)
+        for method, target, key, body, _ in plays:
+            pair.ask(method, target, key=key, body=body)
         with pair.connect() as speaker:
             speaker.send(b"GET\r\n\r\n")
             speaker.rest()
         until(lambda: path.read_bytes().count(b"- web ", begin) > len(plays), 5)
         text = path.read_text()
         lines = [line for line in text.split("\n") if " - web " in line]
-        for method, _, _, _, told in plays:
-            tally.check(f"the line of {method} {told}",
-                        any(re.fullmatch(rf"{FROM} {method} {re.escape(told)} ms \d+", line)
+        for *_, told in plays:
+            tally.check(f"the line of {told}",
+                        any(re.fullmatch(rf"{FROM} {re.escape(told)} ms \d+", line)
                             for line in lines), lines)
         tally.check("the line of a request that cannot be read", any(
-            re.fullmatch(rf"{FROM} - - - 400 ms \d+", line) for line in lines), lines)
+            re.fullmatch(rf"{FROM} - - - - 400 ms \d+", line) for line in lines), lines)
         pair.ask("GET", "/health")
-        for key in pair.keys.values():
+        for key in (*pair.keys.values(), desk, ris, watch):
             tally.check("no key", key not in path.read_text())
         tally.check("no patient", not re.search("secret|doe|jane", text.lower()), text)
         tally.check("the times of others stay",

@@ -18,9 +18,16 @@ def of_front(method: str, kind: Any = web.Front) -> Any:
 
 def web_key_of_anybody() -> None:
     """Each key opens every name."""
-    @of_front("is_opened", web_serving.Keyed)
-    def is_opened(self: Any, right: Callable[..., Any], _: object, fields: Any) -> bool:
-        return any(right(self, name, fields) for name in (*self.institutions, "*"))
+    @of_front("rights", web_serving.Keyed)
+    def rights(self: Any, right: Callable[..., Any], _: object, fields: Any) -> set[str | None]:
+        return {one for name in (*self.institutions, "*") for one in right(self, name, fields)}
+
+
+def web_key_of_any_right() -> None:
+    """Each key of a name may do all that the name may."""
+    @of_front("rights", web_serving.Keyed)
+    def rights(self: Any, right: Callable[..., Any], name: str, fields: Any) -> set[str | None]:
+        return {None for _ in right(self, name, fields)}
 
 
 def web_rows_of_the_first() -> None:

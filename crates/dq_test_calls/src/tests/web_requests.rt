@@ -5,8 +5,8 @@ use dq_list::Listed;
 use dq_request::{Cause, Counted, Counts, Request, Response, Search, Subject};
 use dq_vr::tags;
 use dq_web::{
-    Allowed, Counters, Cut, Framing, Guard, Keys, KeysFault, ParsedRequest, Question, Refusal,
-    Service, Wish, answered, ask, cut_off, judge, misspelled, refused,
+    Allowed, Counters, Cut, Framing, Guard, Judgement, Keys, KeysFault, ParsedRequest, Question,
+    Refusal, Right, Service, Wish, answered, ask, cut_off, judge, misspelled, refused,
 };
 use std::alloc::Global;
 use std::test::Fail;
@@ -15,9 +15,11 @@ use std::test::Fail;
 const EXAMPLE: &[u8] = b"GET /hello.txt HTTP/1.1\r\nUser-Agent: curl/7.64.1\r\n\
     Host: www.example.com\r\nAccept-Language: en, mi\r\n\r\n";
 
-/// The digest of `abc`, of the examples for FIPS 180-4.
+/// The digest of `abc`, of the examples for FIPS 180-4, in lines with a right and a label.
 const KEYS: &str = "# one key\r\n\
-    NORTH ba7816bf8f01cfea414140de5dae2223b00361a396177a9cb410ff61f20015ad\r\n";
+    NORTH order ba7816bf8f01cfea414140de5dae2223b00361a396177a9cb410ff61f20015ad\r\n\
+    NORTH read ba7816bf8f01cfea414140de5dae2223b00361a396177a9cb410ff61f20015ad ris\r\n\
+    * metrics ba7816bf8f01cfea414140de5dae2223b00361a396177a9cb410ff61f20015ad\r\n";
 
 const SEARCH: &[u8] =
     b"GET /NORTH/rs/studies?PatientName=ROE%2A&includefield=all&offset=2 HTTP/1.1\r\n\
@@ -130,8 +132,9 @@ fn requests_are_cut_off(rt: HostRuntime) -> Result<(), Fail> {
         return Err("no head")?;
     };
     assert!(rt; head.is_expecting());
-    let refusal = judge(rt.alloc(), &guard_of(rt.alloc())?, &head)?;
-    assert!(rt; matches!(refusal, Some(Refusal::Request)));
+    let guard = guard_of(rt.alloc())?;
+    let judgement = judge(rt.alloc(), &guard, &head)?;
+    assert!(rt; matches!(judgement, Judgement::Refused(Refusal::Request)));
     let chunked = b"POST / HTTP/1.1\r\nTransfer-Encoding: chunked\r\n\r\n";
     assert!(rt; matches!(cut_off(chunked), Cut::Refused(Refusal::Coding)));
     let long = b"POST / HTTP/1.1\r\nContent-Length: 1048577\r\n\r\n";
@@ -142,9 +145,18 @@ fn requests_are_cut_off(rt: HostRuntime) -> Result<(), Fail> {
 #[test]
 fn keys_are_read(rt: HostRuntime) -> Result<(), Fail> {
     let keys = Keys::read(rt.alloc(), KEYS)?;
-    assert!(rt; keys.allow(b"NORTH", b"abc"));
-    assert!(rt; !keys.allow(b"SOUTH", b"abc"));
-    assert!(rt; !keys.allow(b"NORTH", b"abd"));
+    let first = keys.entry_for(b"NORTH", Right::Order, b"abc");
+    assert!(rt; matches!(first, Ok(entry) if entry.label.is_empty()));
+    let last = keys.entry_for(b"NORTH", Right::Read, b"abc");
+    assert!(rt; matches!(last, Ok(entry) if entry.label.as_slice() == b"ris".as_slice()));
+    let metrics = keys.entry_for(b"*", Right::Metrics, b"abc");
+    assert!(rt; matches!(metrics, Ok(_)));
+    let backup = keys.entry_for(b"*", Right::Backup, b"abc");
+    assert!(rt; matches!(backup, Err(Refusal::Right)));
+    let south = keys.entry_for(b"SOUTH", Right::Read, b"abc");
+    assert!(rt; matches!(south, Err(Refusal::Key)));
+    let other = keys.entry_for(b"NORTH", Right::Read, b"abd");
+    assert!(rt; matches!(other, Err(Refusal::Key)));
     let bad = Keys::read(rt.alloc(), "\nNORTH ba78\n");
     assert!(rt; matches!(bad, Err(KeysFault::Line(2))));
     let none = Keys::read(rt.alloc(), "# none\n");
