@@ -3,13 +3,15 @@
 # the web front
 front=$top/suite/web
 passes 'the web front' "$front" "$right" page keys rights hospitals searches entries looks methods hosts grammar slow many metrics backup
-for one in page keys rights hospitals searches entries looks methods hosts grammar slow many metrics backup log curl; do
+for one in page keys rights anew hospitals searches entries looks methods hosts grammar slow many metrics backup log curl; do
     notices "the web front: stops_at_once: $one" "$one" "$front" "$stops_at_once" "$one"
 done
 notices 'a page of other octets' '/page.js' "$front" "$(server 'web-page-with:PAGE:LEAF')" page
 notices 'a head without its policy' '/page.css' "$front" "$(server web-without:Content-Security-Policy)" page
 notices 'a key that opens all' "another institution's" "$front" "$(server web-key-of-anybody)" keys
 notices 'a key that may do all' 'without the right' "$front" "$(server web-key-of-any-right)" rights
+notices 'a key that was taken back' 'its keys count, and no others' "$front" "$(server web-keeps-keys)" anew
+notices 'keys that a bad file takes away' 'a bad line changes nothing' "$front" "$(server web-forgets-keys)" anew
 notices 'rows of another institution' 'the studies of SOUTH' "$front" "$(server web-rows-of-the-first)" hospitals
 notices 'two hospitals that share rows, over HTTP' 'both are filled alike' "$front" "$(server shares-rows)" hospitals
 notices 'pages of another length' 'a hundred studies' "$front" "$(server web-pages-of:99)" searches

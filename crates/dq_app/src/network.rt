@@ -6,15 +6,16 @@ ghost use Rattle.dq_web.specs.KeyFiles.{key_lines, AreSpelled};
 ghost use Rattle.dq_wires.specs.declared.given_up.Limits.{Limits};
 ghost use Rattle.dq_app.specs.Serving.{limit_of};
 
+use crate::key_files::keys_of;
 use crate::server_sockets::{AssociationSockets, ConsoleSockets, Counted, HttpSockets};
-use dq_captures::{Folder, Host, Unread};
+use dq_captures::{Folder, Host};
 use dq_cli::{VERSION, Web};
 use dq_config::Institution;
-use dq_console::Asks;
+use dq_console::{Asks, KeysError};
 use dq_http::{HttpServer, HttpState};
 use dq_list::Listed;
 use dq_tables::Tables;
-use dq_web::{Guard, Keys, KeysFault};
+use dq_web::Guard;
 use dq_wires::{AssociationLog, Called, Limits, LogEnd, LoggedWires, SocketWires, Turner, Wires};
 use std::alloc::{AllocError, Global};
 use std::io;
@@ -64,13 +65,15 @@ pub struct Listening<'a> {
     pub log: Option<Logging<'a>>,
 }
 
-impl From<KeysFault> for ListenError {
+impl From<KeysError> for ListenError {
     ghost from_gives = { λ _ _. Unit {0} };
 
-    fn from(fault: KeysFault) -> ListenError {
-        match fault {
-            KeysFault::Line(line) => ListenError::Keys(line),
-            KeysFault::NoMemory => ListenError::NoMemory,
+    fn from(error: KeysError) -> ListenError {
+        match error {
+            KeysError::NoFront => ListenError::Failed,
+            KeysError::Failed => ListenError::Keys(0),
+            KeysError::Line(line) => ListenError::Keys(line),
+            KeysError::NoMemory => ListenError::NoMemory,
         }
     }
 }
@@ -239,32 +242,16 @@ fn console_at(alloc: Global, rt: &HostRuntime, path: &str) -> Result<SocketWires
     }
 }
 
-/// The keys of a file.
-fn keys_of<F: Folder>(alloc: Global, folder: &F, path: &str) -> Result<Keys, ListenError>
-    ensures { IfOk result (λ keys. IfSome (F.held folder.now path.now) (λ octets.
-        AreSpelled (key_lines octets) keys.entries)) }
-{
-    let octets = match folder.read_file(alloc, path) {
-        Ok(octets) => octets,
-        Err(Unread::NoMemory) => return Err(ListenError::NoMemory),
-        Err(Unread::Failed) => return Err(ListenError::Keys(0)),
-    };
-    let Ok(text) = str::from_utf8(octets.as_slice()) else {
-        return Err(ListenError::Keys(0));
-    };
-    match Keys::read(alloc, text) {
-        Ok(keys) => Ok(keys),
-        Err(fault) => Err(ListenError::from(fault)),
-    }
-}
-
 /// The guard of a web front: the keys of its file, and its host.
 fn guard_of<F: Folder>(alloc: Global, folder: &F, web: Web<'_>) -> Result<Guard, ListenError>
     ensures keys { IfOk result (λ guard. IfSome (F.held folder.now web.entry.keys.now) (λ octets.
         AreSpelled (key_lines octets) guard.keys.entries)) }
     ensures host { IfOk result (λ guard. guard.host ≡ option_copied web.entry.host) }
 {
-    let keys = keys_of(alloc, folder, web.keys)?;
+    let keys = match keys_of(alloc, folder, web.keys) {
+        Ok(keys) => keys,
+        Err(error) => return Err(ListenError::from(error)),
+    };
     let host = match web.host {
         Some(host) => Some(Listed::copy_of(alloc, host.as_bytes())?),
         None => None,
@@ -341,15 +328,15 @@ impl<H: Host> Network for H {
         if let Some(console) = &console {
             watch(wires, console)?;
         }
-        let front = match entrance.web {
-            Some(web) => Some(front_at(alloc, self, web, institutions)?),
-            None => None,
+        let sockets = ConsoleSockets { wires: console };
+        let Some(web) = entrance.web else {
+            return Ok((sockets, HttpSockets::none(alloc, self.runtime())));
         };
-        if let Some(front) = &front {
-            watch(wires, &front.wires)?;
-            wires.counted = Some(Counted::new(alloc));
-        }
-        Ok((ConsoleSockets { wires: console }, HttpSockets { front }))
+        let front = front_at(alloc, self, web, institutions)?;
+        watch(wires, &front.wires)?;
+        wires.counted = Some(Counted::new(alloc));
+        let keys = String::from_str(alloc, web.keys)?;
+        Ok((sockets, HttpSockets::new(alloc, self.runtime(), front, keys)))
     }
 
     fn rest(&self, wires: &mut Self::Wired, most: Duration) -> io::Result<()> {

@@ -2,9 +2,10 @@
 ghost use Rattle.std.specs.Prelude.{◌≡◌, ◌≤◌, length, option_copied, IfOk};
 ghost use Rattle.dq_wires.specs.Logs.{IfGot, failures_after_accept};
 
+use crate::key_files::reread_keys;
 use dq_assoc::Service;
 use dq_captures::Host;
-use dq_console::Asks;
+use dq_console::{Asks, KeysError};
 use dq_core::{LogEvent, Note, Notes};
 use dq_http::HttpServer;
 use dq_request::{Request, Response};
@@ -33,9 +34,12 @@ pub struct ConsoleSockets {
     pub wires: Option<SocketWires>,
 }
 
-/// The web front, if there is one.
+/// The web front, if there is one, with the path of the file of its keys.
 #[derive(Drop)]
 pub struct HttpSockets {
+    alloc: Global,
+    folder: HostRuntime,
+    keys: String,
     pub front: Option<HttpServer<SocketWires>>,
 }
 
@@ -249,6 +253,31 @@ impl Wires for ConsoleSockets {
 }
 
 impl HttpSockets {
+    /// Those of a web front whose keys are in the file at a path.
+    pub fn new(
+        alloc: Global,
+        folder: &HostRuntime,
+        front: HttpServer<SocketWires>,
+        keys: String,
+    ) -> Self {
+        HttpSockets {
+            alloc,
+            folder: *folder,
+            keys,
+            front: Some(front),
+        }
+    }
+
+    /// Those of no web front.
+    pub fn none(alloc: Global, folder: &HostRuntime) -> Self {
+        HttpSockets {
+            alloc,
+            folder: *folder,
+            keys: String::new(alloc),
+            front: None,
+        }
+    }
+
     /// The turn of the web front. A request for metrics is answered by the counts of what was served.
     /// The notes go to the log.
     pub fn attend(&mut self, beside: &mut AssociationSockets, rt: &HostRuntime) {
@@ -296,11 +325,13 @@ impl HttpSockets {
 impl Asks for HttpSockets {
     ghost use Rattle.std.specs.Option.{option_and_then};
     ghost use Rattle.dq_http.specs.RequestQueue.{next_of};
-    ghost use Rattle.dq_app.specs.HttpAnswers.{IsAnswered};
+    ghost use Rattle.dq_app.specs.HttpAnswers.{IsAnswered, AreReread};
 
     ghost waiting = { λ sockets. option_and_then next_of sockets.front };
 
     ghost answers = { λ old new response. IsAnswered old.front new.front response };
+
+    ghost rereads = { λ old new outcome. AreReread old.front new.front outcome };
 
     fn next(&self) -> Option<&Request> {
         match &self.front {
@@ -312,6 +343,13 @@ impl Asks for HttpSockets {
     fn answer(&mut self, response: &Response) {
         if let Some(front) = &mut self.front {
             front.answer(response);
+        }
+    }
+
+    fn read_keys(&mut self) -> Result<(), KeysError> {
+        match &mut self.front {
+            Some(front) => reread_keys(self.alloc, &self.folder, self.keys.as_str(), front),
+            None => Err(KeysError::NoFront),
         }
     }
 }

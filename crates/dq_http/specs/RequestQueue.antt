@@ -6,6 +6,7 @@ use Rattle.dq_config.specs.declared.config.Institution.{Institution}
 use Rattle.dq_request.specs.declared.request.Request.{Request}
 use Rattle.dq_request.specs.declared.response.Response.{Response}
 use Rattle.dq_web.specs.declared.guard.Guard.{Guard}
+use Rattle.dq_web.specs.declared.keys.Keys.{Keys}
 use Rattle.dq_http.specs.declared.http_server.HttpServer.{HttpServer}
 use Rattle.dq_http.specs.declared.http_connection.HttpConnection.{HttpConnection}
 use Rattle.dq_http.specs.HttpConnections.{IsNew, is_waiting, asked_in, AnswersAt, HasTurn}
@@ -58,6 +59,11 @@ abbrev pub LetsIn : List HttpConnection → List HttpConnection → Type 0
 LetsIn old new = (came : List HttpConnection) × AreNew came × (new ≡ old ++ came)
 
 -- ---- of a server
+
+-- other keys in place of those that it has; its connections are as they were, and what they wait for
+abbrev pub with_keys : {Wired : Type 0} → Keys → HttpServer Wired → HttpServer Wired
+with_keys keys server =
+    record server { state = record server.state { guard = record server.state.guard { keys = keys } } }
 
 abbrev pub next_of : {Wired : Type 0} → HttpServer Wired → Option Request
 next_of server = waiting_request server.connections.items

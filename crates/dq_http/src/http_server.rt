@@ -2,13 +2,13 @@
 ghost use Rattle.std.specs.Prelude.{◌≡◌, [], option_copied, IfOk};
 ghost use Rattle.std.specs.List.{list_any};
 ghost use Rattle.dq_http.specs.HttpConnections.{asks_report, is_busy};
-ghost use Rattle.dq_http.specs.RequestQueue.{first_waiting, next_of, Answered, LetsIn, Attended};
+ghost use Rattle.dq_http.specs.RequestQueue.{first_waiting, next_of, Answered, LetsIn, Attended, with_keys};
 
 use crate::http_connection::HttpConnection;
 use crate::http_state::HttpState;
 use crate::request_log::Notes;
 use dq_request::{Request, Response};
-use dq_web::Counters;
+use dq_web::{Counters, Keys};
 use dq_wires::{GivesUp, READ_MOST, Wires};
 use std::alloc::AllocError;
 use std::time::Instant;
@@ -91,6 +91,14 @@ impl<W: Wires + GivesUp + Drop> HttpServer<W> {
         ensures { self.new ≡ record self.old { state = record self.old.state { counters = counters } } }
     {
         self.state.set_counters(counters);
+    }
+
+    /// Takes other keys in place of those that it has. Requests that were let in by them go on to be
+    /// answered.
+    pub fn set_keys(&mut self, keys: Keys)
+        ensures { self.new ≡ with_keys keys self.old }
+    {
+        self.state.set_keys(keys);
     }
 
     /// Returns the notes of the requests since this was last asked, a line each.

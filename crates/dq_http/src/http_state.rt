@@ -11,7 +11,7 @@ use dq_config::Institution;
 use dq_list::Listed;
 use dq_request::Response;
 use dq_web::{
-    Counters, Cut, Framing, Guard, Head, HttpRequest, Judgement, ParsedRequest, Question, Refusal, Written,
+    Counters, Cut, Framing, Guard, Head, HttpRequest, Judgement, Keys, ParsedRequest, Question, Refusal, Written,
     answered, ask, cut_off, document, healthy, judge, misspelled, refused,
 };
 use httpdate::HttpDate;
@@ -101,6 +101,13 @@ impl HttpState {
         ensures { self.new ≡ record self.old { counters = counters } }
     {
         self.counters = counters;
+    }
+
+    /// Takes other keys in place of those that it has.
+    pub(crate) fn set_keys(&mut self, keys: Keys)
+        ensures { self.new ≡ record self.old { guard = record self.old.guard { keys = keys } } }
+    {
+        self.guard.keys = keys;
     }
 
     /// Returns the outcome for octets that came, at a time.

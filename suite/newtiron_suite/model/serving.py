@@ -228,6 +228,8 @@ class Service:
     def order(self, line: str) -> str:
         if line == "report":
             return "\n".join(self.keeping.server.reported())
+        if line == "keys":
+            return "refused no web front" if self.front is None else self.front.read_anew()
         try:
             event = replies.event_of(line)
         except ValueError:

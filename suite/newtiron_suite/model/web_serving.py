@@ -61,7 +61,8 @@ class Refused(Exception):
 
 
 class BadKeys(Exception):
-    """A file that tells no keys."""
+    """A file that tells no keys: the number of its first bad line, 0 where it has none or cannot be
+    read, and the words for why."""
 
 
 # The names and the rights of keys, by their digests; a right of None is all that the name has.
@@ -74,17 +75,17 @@ def read_keys(path: str) -> Digests:
     try:
         lines = pathlib.Path(path).read_bytes().decode().split("\n")
     except (OSError, UnicodeDecodeError):
-        raise BadKeys(0) from None
+        raise BadKeys(0, "failed") from None
     for number, line in enumerate(lines, 1):
         line = line.removesuffix("\r")
         if line and not line.startswith("#"):
             key = KEY_LINE.fullmatch(line)
             if key is None:
-                raise BadKeys(number)
+                raise BadKeys(number, f"line {number}")
             found.setdefault(key["digest"].lower(), set()).add(
                 (key["name"] or "*", key["right"] or key["server"]))
     if not found:
-        raise BadKeys(0)
+        raise BadKeys(0, "line 0")
     return found
 
 
@@ -191,13 +192,20 @@ class Counters:
 class WebService:
     """The front beside the service of associations, whose events are `keeping`'s."""
 
-    def __init__(self, keeping: Keeping, digests: Digests, address: tuple[str, int],
-                 host: str) -> None:
-        self.keeping, self.counters, self.callers = keeping, Counters(), []
-        self.front = Keyed(keeping.server.institutions, digests, host)
+    def __init__(self, keeping: Keeping, path: str, address: tuple[str, int], host: str) -> None:
+        self.keeping, self.counters, self.callers, self.path = keeping, Counters(), [], path
+        self.front = Keyed(keeping.server.institutions, read_keys(path), host)
         family = socket.AF_INET6 if ":" in address[0] else socket.AF_INET
         self.listener = socket.create_server(address, family=family, backlog=128)
         self.listener.setblocking(False)
+
+    def read_anew(self) -> str:
+        """The console's answer to the order that the file of keys is read anew."""
+        try:
+            self.front.digests = read_keys(self.path)
+        except BadKeys as bad:
+            return f"refused {bad.args[1]}"
+        return "done"
 
     def watched(self) -> Iterator[Any]:
         if len(self.callers) < MOST:
@@ -353,5 +361,5 @@ def begun(keeping: Keeping, words: argparse.Namespace) -> WebService | None:
     """The front that the words ask for; None where they ask for none."""
     if words.web is None:
         return None
-    return WebService(keeping, read_keys(words.web_keys), (words.web_listen or HOST, words.web),
+    return WebService(keeping, words.web_keys, (words.web_listen or HOST, words.web),
                       words.web_host)

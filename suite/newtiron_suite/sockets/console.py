@@ -26,7 +26,7 @@ def found_entries(client: Client) -> int:
 BAD_LINES = [b"", b"x", b"schedule", b"schedule NORTH", b"schedule NORTH 0", b"schedule north 00",
              b"open 1", b"piece 1 00",
              b"end 1", b"pull 1", b"report NORTH", b" report", b"report ", b"report\r",
-             b"withdraw NORTH", b"schedule NORTH 0g",
+             b"keys NORTH", b"keys ", b"KEYS", b"withdraw NORTH", b"schedule NORTH 0g",
              b"withdraw NORTH 53\xff", b"\0", b"POST / HTTP/1.1\r"]
 
 
@@ -45,6 +45,7 @@ def console(tally: Tally, _: object) -> None:
                     desk.ask(schedule[0].replace("NORTH", "EAST")) == "refused 6")
         tally.check("a data set that cannot be read", desk.ask("schedule NORTH 00") == "refused 1")
         tally.check("an entry that is not complete", desk.ask("schedule NORTH -") == "refused 2")
+        tally.check("no web front has keys", desk.ask("keys") == "refused no web front")
         tally.check("no such entry", desk.ask("withdraw NORTH 5339") == "refused 5")
         tally.check("orders are still taken", desk.ask(schedule[1]) == "done")
         desk.send(f"{schedule[2]}\n{withdraw}\n{withdraw}\n".encode())

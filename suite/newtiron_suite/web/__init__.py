@@ -5,6 +5,7 @@
     keys        no key, a wrong one, another institution's and the operator's are refused with the
                 same octets; files of keys, and those that are refused
     rights      what keys with only one right may do, and what they may not
+    anew        the file of keys, read anew by the console's order
     hospitals   two hospitals with the same UIDs: each is shown its own rows
     searches    studies, series, images, entries and steps, page by page, with keys and with words
                 that are none; forms that are accepted, and the warning of fuzzy matching
@@ -46,12 +47,12 @@ from .operator import backup, curl, log, metrics
 from .others import nginx, orthanc
 from .page import browser, items, lists, page, picture
 from .requests import grammar, hosts, methods
-from .rights import rights
+from .rights import anew, rights
 from .searches import hospitals, searches
 
 PARTS: dict[str, Part] = {
-    "page": page, "keys": keys, "rights": rights, "hospitals": hospitals, "searches": searches,
-    "entries": entries, "looks": looks, "methods": methods, "hosts": hosts, "grammar": grammar, "slow": slow,
+    "page": page, "keys": keys, "rights": rights, "anew": anew, "hospitals": hospitals,
+    "searches": searches, "entries": entries, "looks": looks, "methods": methods, "hosts": hosts, "grammar": grammar, "slow": slow,
     "late": late, "crowd": crowd, "many": many, "metrics": metrics, "backup": backup, "log": log,
     "curl": curl, "lists": lists, "items": items, "browser": browser, "orthanc": orthanc,
     "nginx": nginx,

@@ -1,8 +1,12 @@
-"""What a key may do."""
+"""What a key may do, and keys that come and go while they are served."""
+import hashlib
 import pathlib
+import re
 
+from ..client import Serving, until
+from ..paths import CONFIGURATIONS
 from ..tally import Tally
-from .common import Pair, entry_octets
+from .common import PROGRAM, Pair, entry_octets, key_line
 
 LIMITED = [("NORTH", "read", "reader"), ("NORTH", "order", "desk"), ("*", "metrics", "watch"),
            ("*", "backup", "nightly")]
@@ -61,3 +65,60 @@ def head_alone(tally: Tally, pair: Pair, reader: str) -> None:
         tally.check("a body is not awaited without the right",
                     told is not None and (told.status, told.body) == (403, b'{"refused":"right"}'),
                     told and told.head)
+
+
+def anew(tally: Tally, folder: pathlib.Path) -> None:
+    """The file of keys, read anew by the console's order: its keys count from then on, and those
+    that are gone count no more. One that is refused changes nothing."""
+    log = folder / "log"
+    with Pair(folder, "--log-file", log) as pair, pair.server.console() as desk, \
+            pair.connect() as speaker:
+        path, target = pair.folder / "keys", "/NORTH/counts"
+        old, south = pair.keys["NORTH"], pair.keys["SOUTH"]
+        new = key_line(pair.folder, "NORTH", "--right", "read", "--label", "new")
+        gone = hashlib.sha256(old.encode()).hexdigest()
+        kept = [line for line in path.read_text().splitlines(True) if gone not in line]
+        path.write_text("".join(kept))
+
+        def statuses() -> list[int]:
+            return [pair.ask("GET", target, key=old).status,
+                    pair.ask("GET", target, key=new).status,
+                    pair.ask("GET", "/SOUTH/counts", key=south).status,
+                    pair.ask("GET", "/metrics", "*").status]
+
+        tally.check("the file is not read until that is asked", statuses() == [200, 401, 200, 200],
+                    statuses())
+        tally.check("a key before it is taken back",
+                    speaker.ask("GET", target, old).status == 200)
+        tally.check("it is read anew", desk.ask("keys") == "done")
+        tally.check("its keys count, and no others", statuses() == [401, 200, 200, 200],
+                    statuses())
+        tally.check("on a connection that was there too",
+                    speaker.ask("GET", target, old).status == 401)
+        tally.check("a new key has its right", pair.ask(
+            "POST", "/NORTH/worklist", key=new, body=entry_octets("S1")).status == 403)
+        for what, text, told in (
+                ("a bad line", "".join(kept).encode() + b"NORTH\n", f"line {len(kept) + 1}"),
+                ("no key", b"# none\n", "line 0"), ("no UTF-8", b"NORTH \xff\n", "failed"),
+                ("no file", None, "failed")):
+            path.unlink()
+            if text is not None:
+                path.write_bytes(text)
+            answer = desk.ask("keys")
+            tally.check(f"{what} is refused", answer == f"refused {told}", answer)
+            tally.check(f"{what} changes nothing", statuses() == [401, 200, 200, 200], statuses())
+            path.touch()
+        path.write_text(f"NORTH {gone} old\n")
+        tally.check("it is read once more", desk.ask("keys") == "done")
+        tally.check("again its keys only", statuses() == [200, 401, 401, 401], statuses())
+        wanted = ["keys done", "keys refused line 4", "keys refused line 0", "keys refused failed",
+                  "keys refused failed", "keys done"]
+        tally.check("the log has them", until(
+            lambda: re.findall(r" - console (.*)\n", log.read_text()) == wanted, 5),
+            log.read_text())
+        pair.is_right(tally, "keys read anew")
+    with Serving(PROGRAM, "--config", CONFIGURATIONS / "hospitals.toml",
+                 has_console=True) as server, server.console() as desk:
+        answer = desk.ask("keys")
+        tally.check("without a web front", answer == "refused no web front", answer)
+        tally.check("other orders are taken", desk.ask("report").startswith("NORTH studies 0 "))

@@ -17,8 +17,8 @@ from .answers import (Stop, answers_at_most, answers_in_turn, attribute_dropped,
                       started_stays_started, starts_every_value, starts_none, starts_of_all,
                       stop_at_unreadable)
 from .front import (web_bids_anybody_go_on, web_closes_each, web_copies_nothing, web_counts_no,
-                    web_gives_what_is_not_accepted, web_key_of_any_right, web_key_of_anybody,
-                    web_look_withdraws, web_page_with, web_pages_of, web_paths_go_up, web_refuses_as,
+                    web_forgets_keys, web_gives_what_is_not_accepted, web_keeps_keys,
+                    web_key_of_any_right, web_key_of_anybody, web_look_withdraws, web_page_with, web_pages_of, web_paths_go_up, web_refuses_as,
                     web_rows_of_the_first, web_sends_a_body_to_head, web_stays_open,
                     web_takes_any_host, web_takes_any_method, web_takes_two_hosts,
                     web_waits_for_one, web_without)
@@ -86,6 +86,7 @@ FAULTS: dict[str, Callable[..., None]] = {
     "socket-reads-on": socket_reads_on, "page-of": page_of, "pages-found-anew": pages_found_anew,
     "drops-what-is-left": drops_what_is_left, "cancels-any": cancels_any,
     "web-key-of-anybody": web_key_of_anybody, "web-key-of-any-right": web_key_of_any_right,
+    "web-keeps-keys": web_keeps_keys, "web-forgets-keys": web_forgets_keys,
     "web-rows-of-the-first": web_rows_of_the_first,
     "web-pages-of": web_pages_of, "web-refuses-as": web_refuses_as,
     "web-look-withdraws": web_look_withdraws, "web-takes-any-method": web_takes_any_method,

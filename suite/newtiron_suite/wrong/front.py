@@ -30,6 +30,32 @@ def web_key_of_any_right() -> None:
         return {None for _ in right(self, name, fields)}
 
 
+def web_keeps_keys() -> None:
+    """Keys that were taken back go on to count when their file is read anew."""
+    right = web_serving.read_keys
+    kept: web_serving.Digests = {}
+
+    def read_keys(path: str) -> web_serving.Digests:
+        for digest, names in right(path).items():
+            kept.setdefault(digest, set()).update(names)
+        return kept
+
+    web_serving.read_keys = read_keys
+
+
+def web_forgets_keys() -> None:
+    """A file of keys that is refused leaves none."""
+    right = web_serving.WebService.read_anew
+
+    def read_anew(self: web_serving.WebService) -> str:
+        told = right(self)
+        if told != "done":
+            self.front.digests = {}
+        return told
+
+    web_serving.WebService.read_anew = read_anew
+
+
 def web_rows_of_the_first() -> None:
     """What is asked of any institution is answered of the first."""
     @of_front("answer")

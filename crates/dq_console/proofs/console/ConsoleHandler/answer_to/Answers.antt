@@ -1,6 +1,6 @@
 use Rattle.dq_captures.proofs.WrittenLines.{OnErr-known}
 use Rattle.dq_console.proofs.ServiceProgress.{unanswered-after}
-use Rattle.dq_console.proofs.console.answer_to.Goals as goal
+use Rattle.dq_console.proofs.console.ConsoleHandler.answer_to.Goals as goal
 
 pub returns-in_err-response_text-in-Asked-clause-cut :
     goal.returns-in_err-response_text-in-Asked-clause-cut
