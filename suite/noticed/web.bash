@@ -2,7 +2,7 @@
 
 # the web front
 front=$top/suite/web
-passes 'the web front' "$front" "$right" page keys rights hospitals searches entries looks methods hosts grammar slow many metrics backup
+passes 'the web front' "$front" "$right" page keys rights anew hospitals searches entries looks methods hosts grammar slow many metrics backup
 for one in page keys rights anew hospitals searches entries looks methods hosts grammar slow many metrics backup log curl; do
     notices "the web front: stops_at_once: $one" "$one" "$front" "$stops_at_once" "$one"
 done

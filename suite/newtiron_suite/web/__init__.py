@@ -52,8 +52,9 @@ from .searches import hospitals, searches
 
 PARTS: dict[str, Part] = {
     "page": page, "keys": keys, "rights": rights, "anew": anew, "hospitals": hospitals,
-    "searches": searches, "entries": entries, "looks": looks, "methods": methods, "hosts": hosts, "grammar": grammar, "slow": slow,
-    "late": late, "crowd": crowd, "many": many, "metrics": metrics, "backup": backup, "log": log,
+    "searches": searches, "entries": entries, "looks": looks, "methods": methods, "hosts": hosts,
+    "grammar": grammar, "slow": slow, "late": late, "crowd": crowd, "many": many,
+    "metrics": metrics, "backup": backup, "log": log,
     "curl": curl, "lists": lists, "items": items, "browser": browser, "orthanc": orthanc,
     "nginx": nginx,
 }

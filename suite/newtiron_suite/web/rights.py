@@ -1,9 +1,8 @@
 """What a key may do, and keys that come and go while they are served."""
 import hashlib
 import pathlib
-import re
 
-from ..client import Serving, until
+from ..client import Serving
 from ..paths import CONFIGURATIONS
 from ..tally import Tally
 from .common import PROGRAM, Pair, entry_octets, key_line
@@ -70,9 +69,7 @@ def head_alone(tally: Tally, pair: Pair, reader: str) -> None:
 def anew(tally: Tally, folder: pathlib.Path) -> None:
     """The file of keys, read anew by the console's order: its keys count from then on, and those
     that are gone count no more. One that is refused changes nothing."""
-    log = folder / "log"
-    with Pair(folder, "--log-file", log) as pair, pair.server.console() as desk, \
-            pair.connect() as speaker:
+    with Pair(folder) as pair, pair.server.console() as desk, pair.connect() as speaker:
         path, target = pair.folder / "keys", "/NORTH/counts"
         old, south = pair.keys["NORTH"], pair.keys["SOUTH"]
         new = key_line(pair.folder, "NORTH", "--right", "read", "--label", "new")
@@ -111,11 +108,6 @@ def anew(tally: Tally, folder: pathlib.Path) -> None:
         path.write_text(f"NORTH {gone} old\n")
         tally.check("it is read once more", desk.ask("keys") == "done")
         tally.check("again its keys only", statuses() == [200, 401, 401, 401], statuses())
-        wanted = ["keys done", "keys refused line 4", "keys refused line 0", "keys refused failed",
-                  "keys refused failed", "keys done"]
-        tally.check("the log has them", until(
-            lambda: re.findall(r" - console (.*)\n", log.read_text()) == wanted, 5),
-            log.read_text())
         pair.is_right(tally, "keys read anew")
     with Serving(PROGRAM, "--config", CONFIGURATIONS / "hospitals.toml",
                  has_console=True) as server, server.console() as desk:

@@ -18,7 +18,8 @@ from .answers import (Stop, answers_at_most, answers_in_turn, attribute_dropped,
                       stop_at_unreadable)
 from .front import (web_bids_anybody_go_on, web_closes_each, web_copies_nothing, web_counts_no,
                     web_forgets_keys, web_gives_what_is_not_accepted, web_keeps_keys,
-                    web_key_of_any_right, web_key_of_anybody, web_look_withdraws, web_page_with, web_pages_of, web_paths_go_up, web_refuses_as,
+                    web_key_of_any_right, web_key_of_anybody, web_look_withdraws, web_page_with,
+                    web_pages_of, web_paths_go_up, web_refuses_as,
                     web_rows_of_the_first, web_sends_a_body_to_head, web_stays_open,
                     web_takes_any_host, web_takes_any_method, web_takes_two_hosts,
                     web_waits_for_one, web_without)
