@@ -148,14 +148,15 @@ impl HttpState {
             is_head: head.is_head(),
             date,
         };
-        let judgement = judge(self.alloc, &self.guard, head)?;
-        match judgement {
+        match judge(self.alloc, &self.guard, head)? {
             Judgement::Refused(refusal) => {
-                let words = words_of(self.alloc, judgement.label(), head)?;
+                let words = words_of(self.alloc, &[], head)?;
                 Ok(RequestOutcome::Refuse(words, refused(self.alloc, refusal, framing)?))
             }
-            _ if head.is_expecting() => Ok(RequestOutcome::GoOn),
-            _ => Ok(RequestOutcome::AwaitBody),
+            Judgement::Open | Judgement::Opened(_) if head.is_expecting() => {
+                Ok(RequestOutcome::GoOn)
+            }
+            Judgement::Open | Judgement::Opened(_) => Ok(RequestOutcome::AwaitBody),
         }
     }
 

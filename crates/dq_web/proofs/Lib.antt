@@ -1,3 +1,3 @@
-pub mod Among
+pub mod Labels
 pub mod Orders
 pub mod Taking

@@ -26,10 +26,10 @@ right_word Order = codes "order"
 right_word Metrics = codes "metrics"
 right_word Backup = codes "backup"
 
--- a right, where one is given, and the space behind it
-abbrev pub right_part : Option Right → List ℕ
-right_part None = []
-right_part (Some right) = right_word right ++ codes " "
+-- a text behind a right and a space, where a right is given
+abbrev pub with_right : Option Right → List ℕ → List ℕ
+with_right None text = text
+with_right (Some right) text = right_word right ++ codes " " ++ text
 
 -- keys of an institution may read and order there, and those of the operator see metrics and have a backup made
 abbrev pub may_have : List ℕ → Option Right → Bool
@@ -46,10 +46,10 @@ is_label_octet octet = is_ascii_alphanumeric octet || octet == 45 || octet == 95
 abbrev pub is_label : List ℕ → Bool
 is_label octets = not (length octets == 0) && nat_le (length octets) 32 && list_all is_label_octet octets
 
--- a label, where there is one, and the space before it
-abbrev pub label_part : List ℕ → List ℕ
-label_part [] = []
-label_part (octet ∷ octets) = codes " " ++ octet ∷ octets
+-- a text before a space and a label, where there is a label
+abbrev pub with_label : List ℕ → List ℕ → List ℕ
+with_label text [] = text
+with_label text (octet ∷ octets) = text ++ codes " " ++ octet ∷ octets
 
 abbrev pub may_be_label : List ℕ → Bool
 may_be_label [] = true
@@ -58,7 +58,7 @@ may_be_label (octet ∷ octets) = is_label (octet ∷ octets)
 -- a line of the file spells the entry
 pub record SpellsKey (line : List ℕ) (entry : KeyEntry) : Type 0 where
   pub digest_text : List ℕ
-  pub spelled : line ≡ entry.name ++ codes " " ++ right_part entry.right ++ digest_text ++ label_part entry.label
+  pub spelled : line ≡ entry.name ++ codes " " ++ with_right entry.right (with_label digest_text entry.label)
   pub owned : IsTrue (may_have entry.name entry.right)
   pub digest : decode_of digest_text ≡ Ok entry.digest
   pub labelled : IsTrue (may_be_label entry.label)

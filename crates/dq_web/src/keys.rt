@@ -4,7 +4,7 @@ ghost use Rattle.hex.specs.Hex.{decode_of};
 ghost use Rattle.std.specs.Str.{bytes_eq};
 ghost use Rattle.std.specs.List.{list_all};
 ghost use Rattle.sha2.specs.Sha256.{sha256};
-ghost use Rattle.dq_web.specs.KeyFiles.{is_owner, right_word, right_part, may_have, is_label_octet, is_label, label_part, may_be_label, SpellsKey, is_key_line, key_lines, AreSpelled, is_right, may_do, opens, permits, IsEntryFor};
+ghost use Rattle.dq_web.specs.KeyFiles.{is_owner, right_word, with_right, may_have, is_label_octet, is_label, with_label, may_be_label, SpellsKey, is_key_line, key_lines, AreSpelled, is_right, may_do, opens, permits, IsEntryFor};
 
 use crate::parsed_request::begins;
 use crate::refusal::Refusal;
@@ -108,7 +108,7 @@ impl Right {
 
 /// The right at the front of a text, if one is given, and the text behind it.
 fn right_in(text: &str) -> (Option<Right>, &str)
-    ensures { text.now ≡ right_part result.0 ++ result.1.now }
+    ensures { text.now ≡ with_right result.0 result.1.now }
 {
     let Some((word, rest)) = at_space(text) else {
         return (None, text);
@@ -139,8 +139,9 @@ fn is_label(octets: &[u8]) -> bool
 }
 
 /// The text before a label, and the label, which is empty if there is none.
+#[tactic(auto, using(crate::proofs::Labels::with_one, crate::proofs::Labels::may_be_one))]
 fn label_in(text: &str) -> Option<(&str, &str)>
-    ensures { IfSome result (λ parts. (text.now ≡ parts.0.now ++ label_part parts.1.now)
+    ensures { IfSome result (λ parts. (text.now ≡ with_label parts.0.now parts.1.now)
         × IsTrue (may_be_label parts.1.now)) }
 {
     match at_space(text) {
@@ -280,10 +281,13 @@ impl Keys {
         let permitted = entries
             .iter()
             .find(|entry| entry.opens(name, &digest) && entry.may(right));
-        match permitted {
-            Some(entry) => Ok(entry),
-            None if entries.iter().any(|entry| entry.opens(name, &digest)) => Err(Refusal::Right),
-            None => Err(Refusal::Key),
+        if let Some(entry) = permitted {
+            return Ok(entry);
+        }
+        if entries.iter().any(|entry| entry.opens(name, &digest)) {
+            Err(Refusal::Right)
+        } else {
+            Err(Refusal::Key)
         }
     }
 }

@@ -1,5 +1,6 @@
-use Rattle.std.proofs.Common.{◌≡◌, ℕ, List, [], ◌∷◌, ◌++◌, true, false, Bor, map, filter, subst, refl, sym, ap, rules, tests}
+use Rattle.std.proofs.Common.{◌≡◌, ◌∙◌, ℕ, List, [], ◌∷◌, ◌++◌, Bool, true, false, Bor, map, filter, subst, refl, sym, ap, append-nil, rules, tests}
 use Rattle.std.proofs.lemmas.List.{map-append}
+use Rattle.std.proofs.lemmas.List.Elements.{filter-append}
 use Rattle.std.proofs.lemmas.Iterator.Consumers.{YieldsList-end}
 use Rattle.std.proofs.lemmas.Iterator.Splits.{YieldsList-from_lines}
 use Rattle.dq_web.specs.declared.keys.KeyEntry.{KeyEntry}
@@ -14,28 +15,27 @@ AreSpelled-push (first ∷ lines) [] line entry all one = absurd all
 AreSpelled-push (first ∷ lines) (other ∷ entries) line entry all one =
     (all.0, AreSpelled-push lines entries line entry all.1 one)
 
--- a line of a key is one more line of keys, and another line is none
-filter-key : (lines : List (List ℕ)) (line : List ℕ) → is_key_line line ≡ true
-    → filter is_key_line (lines ++ line ∷ []) ≡ filter is_key_line lines ++ line ∷ []
-filter-key [] line is = rw is refl
-filter-key (first ∷ lines) line is = by (is_key_line first) refl where
-  by : (b : Bool) → is_key_line first ≡ b
-      → filter is_key_line (first ∷ (lines ++ line ∷ [])) ≡ filter is_key_line (first ∷ lines) ++ line ∷ []
-  by true yes = rw yes (ap (λ (l : List (List ℕ)). first ∷ l) (filter-key lines line is))
-  by false no = rw no (filter-key lines line is)
+-- one that passes a test is one more of those that pass, and another is none
+module _ (passes : List ℕ → Bool) where
+  filter-yes : (lines : List (List ℕ)) (line : List ℕ) → passes line ≡ true
+      → filter passes (lines ++ line ∷ []) ≡ filter passes lines ++ line ∷ []
+  filter-yes lines line yes =
+      let one : filter passes (line ∷ []) ≡ line ∷ [] = rw yes refl in
+      filter-append passes lines (line ∷ []) ∙ ap (λ (l : List (List ℕ)). filter passes lines ++ l) one
 
-filter-other : (lines : List (List ℕ)) (line : List ℕ) → is_key_line line ≡ false
-    → filter is_key_line (lines ++ line ∷ []) ≡ filter is_key_line lines
-filter-other [] line is = rw is refl
-filter-other (first ∷ lines) line is = by (is_key_line first) refl where
-  by : (b : Bool) → is_key_line first ≡ b
-      → filter is_key_line (first ∷ (lines ++ line ∷ [])) ≡ filter is_key_line (first ∷ lines)
-  by true yes = rw yes (ap (λ (l : List (List ℕ)). first ∷ l) (filter-other lines line is))
-  by false no = rw no (filter-other lines line is)
+  filter-no : (lines : List (List ℕ)) (line : List ℕ) → passes line ≡ false
+      → filter passes (lines ++ line ∷ []) ≡ filter passes lines
+  filter-no lines line no =
+      let one : filter passes (line ∷ []) ≡ [] = rw no refl in
+      filter-append passes lines (line ∷ []) ∙ ap (λ (l : List (List ℕ)). filter passes lines ++ l) one
+      ∙ append-nil (filter passes lines)
+
+abbrev lines_in : List (Bor (List ℕ)) → List (List ℕ)
+lines_in yielded = map (λ (line : Bor (List ℕ)). line.now) yielded
 
 pub loop-line-preserved : goal.loop-line-preserved
 loop-line-preserved c =
-    let yes : is_key_line c.in-Some.line.now ≡ true = search (rules, tests) in
     let told : SpellsKey c.in-Some.line.now c.in-Some-2.entry = rw (c.in_ok-entry.was, c.in-Some-2.is) at c.key_of.ensures in
-    let all = AreSpelled-push _ _ c.in-Some.line.now c.in-Some-2.entry c.loop-line.invariant told in
-    rw (c.in_ok-push.ensures.ok, map-append, filter-key _ _ yes) all
+    let all = AreSpelled-push (filter is_key_line (lines_in c.loop-line.yielded)) c.loop-line.entries c.in-Some.line.now c.in-Some-2.entry c.loop-line.invariant told in
+    let more = filter-yes is_key_line (lines_in c.loop-line.yielded) c.in-Some.line.now (search (rules, tests)) in
+    rw (c.in_ok-push.ensures.ok, map-append) (subst (λ (lines : List (List ℕ)). AreSpelled lines (c.loop-line.entries ++ c.in-Some-2.entry ∷ [])) (sym more) all)
