@@ -248,10 +248,7 @@ fn guard_of<F: Folder>(alloc: Global, folder: &F, web: Web<'_>) -> Result<Guard,
         AreSpelled (key_lines octets) guard.keys.entries)) }
     ensures host { IfOk result (λ guard. guard.host ≡ option_copied web.entry.host) }
 {
-    let keys = match keys_of(alloc, folder, web.keys) {
-        Ok(keys) => keys,
-        Err(error) => return Err(ListenError::from(error)),
-    };
+    let keys = keys_of(alloc, folder, web.keys)?;
     let host = match web.host {
         Some(host) => Some(Listed::copy_of(alloc, host.as_bytes())?),
         None => None,

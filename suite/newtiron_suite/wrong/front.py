@@ -45,15 +45,12 @@ def web_keeps_keys() -> None:
 
 def web_forgets_keys() -> None:
     """A file of keys that is refused leaves none."""
-    right = web_serving.WebService.read_anew
-
-    def read_anew(self: web_serving.WebService) -> str:
+    @of_front("read_anew", web_serving.WebService)
+    def read_anew(self: Any, right: Callable[..., Any]) -> Any:
         told = right(self)
         if told != "done":
             self.front.digests = {}
         return told
-
-    web_serving.WebService.read_anew = read_anew
 
 
 def web_rows_of_the_first() -> None:
