@@ -93,7 +93,7 @@ impl Right {
     }
 
     /// Whether it is this one.
-    fn is(self, other: Right) -> bool
+    fn is_same(self, other: Right) -> bool
         ensures { result ≡ is_right self other }
     {
         match (self, other) {
@@ -240,7 +240,7 @@ impl KeyEntry {
     {
         match self.right {
             None => true,
-            Some(own) => own.is(right),
+            Some(own) => own.is_same(right),
         }
     }
 }
