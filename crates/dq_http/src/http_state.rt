@@ -211,7 +211,7 @@ impl HttpState {
         request: &HttpRequest<'_>,
         framing: Framing,
     ) -> Result<Given, AllocError>
-        ensures { IfOk result (IsGivenAs judgement self.now.guard request.now framing) }
+        ensures { IfOk result (IsGivenAs judgement.entry self.now.guard request.now framing) }
     {
         match judgement {
             Judgement::Refused(refusal) => {

@@ -1,3 +1,3 @@
-pub mod Labels
+pub mod Opening
 pub mod Orders
 pub mod Taking

@@ -2,7 +2,7 @@
 ghost use Rattle.std.specs.Prelude.{◌≡◌, ◌++◌, codes, Some, IsTrue, IfOk, OnOk, IfSome, option_copied};
 ghost use Rattle.std.specs.Char.{is_ascii_digit};
 ghost use Rattle.std.specs.List.{list_all};
-ghost use Rattle.dq_web.specs.Guards.{IsAt, IsKnownHost, IsOrigin, IsSameOrigin, IsSameSite, IsAllowedSite, IsAdmitted, TellsKey, IsOpenedBy};
+ghost use Rattle.dq_web.specs.Guards.{IsAt, IsKnownHost, IsOrigin, IsSameOrigin, IsSameSite, IsAllowedSite, IsAdmitted, TellsKey, IsOpenedBy, IsOpened};
 ghost use Rattle.dq_web.specs.Requests.{is_named};
 
 use crate::cutting::{Fields, is_named};
@@ -188,8 +188,10 @@ impl Guard {
         right: Right,
         authorization: Option<&[u8]>,
     ) -> Result<&KeyEntry, Refusal>
-        ensures { IfOk result (λ entry. IsOpenedBy self.now.keys name.now right
+        ensures by { IfOk result (λ entry. IsOpenedBy self.now.keys name.now right
             (option_copied authorization.entry) entry.now) }
+        ensures opened { OnOk result (IsOpened self.now.keys name.now right
+            (option_copied authorization.entry)) }
     {
         match key_in(authorization) {
             Some(key) => self.keys.entry_for(name, right, key),

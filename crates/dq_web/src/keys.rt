@@ -1,10 +1,10 @@
 //! The keys of institutions and of the operator.
-ghost use Rattle.std.specs.Prelude.{◌≡◌, ◌++◌, codes, Ok, IsTrue, IfOk, IfSome};
+ghost use Rattle.std.specs.Prelude.{◌≡◌, ◌++◌, codes, Ok, IsTrue, IfOk, IfSome, option_copied};
 ghost use Rattle.hex.specs.Hex.{decode_of};
 ghost use Rattle.std.specs.Str.{bytes_eq};
-ghost use Rattle.std.specs.List.{list_all};
+ghost use Rattle.std.specs.List.{list_all, list_any};
 ghost use Rattle.sha2.specs.Sha256.{sha256};
-ghost use Rattle.dq_web.specs.KeyFiles.{is_owner, right_word, with_right, may_have, is_label_octet, is_label, with_label, may_be_label, SpellsKey, is_key_line, key_lines, AreSpelled, is_right, may_do, opens, permits, IsEntryFor};
+ghost use Rattle.dq_web.specs.KeyFiles.{is_owner, right_word, with_right, may_have, is_label_octet, is_label, with_label, may_be_label, SpellsKey, is_key_line, key_lines, AreSpelled, is_right, may_do, opens, permits, entry_for, IsEntryFor};
 
 use crate::parsed_request::begins;
 use crate::refusal::Refusal;
@@ -139,7 +139,6 @@ fn is_label(octets: &[u8]) -> bool
 }
 
 /// The text before a label, and the label, which is empty if there is none.
-#[tactic(auto, using(crate::proofs::Labels::with_one, crate::proofs::Labels::may_be_one))]
 fn label_in(text: &str) -> Option<(&str, &str)>
     ensures { IfSome result (λ parts. (text.now ≡ with_label parts.0.now parts.1.now)
         × IsTrue (may_be_label parts.1.now)) }
@@ -243,6 +242,34 @@ impl KeyEntry {
             Some(own) => own.is_same(right),
         }
     }
+
+    /// Whether it is of this name and digest, and has this right.
+    fn permits(&self, name: &[u8], right: Right, digest: &[u8]) -> bool
+        ensures { result ≡ permits name.now right digest.now self.now }
+    {
+        self.opens(name, digest) && self.may(right)
+    }
+}
+
+/// The first entry that permits it.
+fn entry_for<'a>(
+    entries: &'a [KeyEntry],
+    name: &[u8],
+    right: Right,
+    digest: &[u8],
+) -> Option<&'a KeyEntry>
+    ensures { option_copied result ≡ entry_for entries.now name.now right digest.now }
+{
+    entries
+        .iter()
+        .find(|entry| entry.permits(name, right, digest))
+}
+
+/// Whether an entry is of this name and digest, whatever right it has.
+fn is_known(entries: &[KeyEntry], name: &[u8], digest: &[u8]) -> bool
+    ensures { result ≡ list_any (opens name.now digest.now) entries.now }
+{
+    entries.iter().any(|entry| entry.opens(name, digest))
 }
 
 impl Keys {
@@ -278,16 +305,10 @@ impl Keys {
     {
         let digest = Sha256::digest(key);
         let entries = self.entries.as_slice();
-        let permitted = entries
-            .iter()
-            .find(|entry| entry.opens(name, &digest) && entry.may(right));
-        if let Some(entry) = permitted {
-            return Ok(entry);
-        }
-        if entries.iter().any(|entry| entry.opens(name, &digest)) {
-            Err(Refusal::Right)
-        } else {
-            Err(Refusal::Key)
+        match entry_for(entries, name, right, &digest) {
+            Some(entry) => Ok(entry),
+            None if is_known(entries, name, &digest) => Err(Refusal::Right),
+            None => Err(Refusal::Key),
         }
     }
 }

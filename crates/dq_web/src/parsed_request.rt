@@ -3,7 +3,7 @@ ghost use Rattle.std.specs.Prelude.{◌≡◌, ◌==◌, ◌++◌, ◌∷◌, []
 ghost use Rattle.std.specs.List.{list_all, list_any, starts_with};
 ghost use Rattle.std.specs.Str.{bytes_eq};
 ghost use Rattle.percent_encoding.specs.Percent.{percent_decode};
-ghost use Rattle.dq_web.specs.Guards.{IsOpenedBy};
+ghost use Rattle.dq_web.specs.Guards.{IsOpenedBy, IsOpened};
 ghost use Rattle.dq_request.specs.Searches.{TakesWords, StopsAt, name_in};
 ghost use Rattle.dq_web.specs.ParsedRequests.{is_visible, is_printable, is_silent, is_attribute, is_unknown, is_left_out, parts_of, words_among, words_in, uid_key, hundred_of, series_of, images_of, IsSearchAt, owner_of, right_of, IsPathAndQuery, IsTarget, IsMethod, IsLooked, IsBackup, Posting, Deleting, IsWanted, has_no_slash, is_plain_segment, is_plain_path, is_page, IsLetIn, IsJudged, label_of, is_fuzzy, wish_of, IsAsked};
 
@@ -628,9 +628,12 @@ fn let_in<'a>(alloc: Global, guard: &Guard, head: &Head<'a>) -> Result<Aim<'a>, 
 
 /// The entry whose key opens what a head aims at.
 fn entry_for<'a>(guard: &'a Guard, aim: Aim<'_>, head: &Head<'_>) -> Result<&'a KeyEntry, Refusal>
-    ensures { IfOk result (λ entry. IsOpenedBy guard.now.keys (owner_of aim.entry.resource)
+    ensures by { IfOk result (λ entry. IsOpenedBy guard.now.keys (owner_of aim.entry.resource)
         (right_of aim.entry.resource aim.entry.method) (option_copied head.now.fields.authorization)
         entry.now) }
+    ensures opened { OnOk result (IsOpened guard.now.keys (owner_of aim.entry.resource)
+        (right_of aim.entry.resource aim.entry.method)
+        (option_copied head.now.fields.authorization)) }
 {
     let right = right_of(aim.resource, aim.method);
     guard.open(owner_of(aim.resource), right, head.fields.authorization)
@@ -731,7 +734,7 @@ pub fn judge<'a>(
 impl<'a> Judgement<'a> {
     /// Returns the label of the key that let the head in, which is empty if it has none.
     pub fn label(self) -> &'a [u8]
-        ensures { result.now ≡ label_of self }
+        ensures { result.now ≡ label_of self.entry }
     {
         match self {
             Judgement::Opened(entry) => entry.label.as_slice(),

@@ -19,14 +19,14 @@ AreSpelled-push (first ∷ lines) (other ∷ entries) line entry all one =
 module _ (passes : List ℕ → Bool) where
   filter-yes : (lines : List (List ℕ)) (line : List ℕ) → passes line ≡ true
       → filter passes (lines ++ line ∷ []) ≡ filter passes lines ++ line ∷ []
-  filter-yes lines line yes =
-      let one : filter passes (line ∷ []) ≡ line ∷ [] = rw yes refl in
+  filter-yes lines line is =
+      let one : filter passes (line ∷ []) ≡ line ∷ [] = rw is refl in
       filter-append passes lines (line ∷ []) ∙ ap (λ (l : List (List ℕ)). filter passes lines ++ l) one
 
   filter-no : (lines : List (List ℕ)) (line : List ℕ) → passes line ≡ false
       → filter passes (lines ++ line ∷ []) ≡ filter passes lines
-  filter-no lines line no =
-      let one : filter passes (line ∷ []) ≡ [] = rw no refl in
+  filter-no lines line is =
+      let one : filter passes (line ∷ []) ≡ [] = rw is refl in
       filter-append passes lines (line ∷ []) ∙ ap (λ (l : List (List ℕ)). filter passes lines ++ l) one
       ∙ append-nil (filter passes lines)
 
@@ -39,3 +39,8 @@ loop-line-preserved c =
     let all = AreSpelled-push (filter is_key_line (lines_in c.loop-line.yielded)) c.loop-line.entries c.in-Some.line.now c.in-Some-2.entry c.loop-line.invariant told in
     let more = filter-yes is_key_line (lines_in c.loop-line.yielded) c.in-Some.line.now (search (rules, tests)) in
     rw (c.in_ok-push.ensures.ok, map-append) (subst (λ (lines : List (List ℕ)). AreSpelled lines (c.loop-line.entries ++ c.in-Some-2.entry ∷ [])) (sym more) all)
+
+pub returns : goal.returns
+returns c =
+    let turn = YieldsList-end (YieldsList-from_lines c.args.text.now cc) c.loop-line.yielded _ c.loop-line.yielded_by _ _ c.in-None.is c.next.ensures.steps in
+    subst (λ (lines : List (List ℕ)). AreSpelled (filter is_key_line lines) c.loop-line.entries) turn.0 c.loop-line.invariant
