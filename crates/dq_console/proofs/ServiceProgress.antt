@@ -184,12 +184,12 @@ module _ {Tables : Type 0} (state : Tables → State) where
           reread = tt;
         }
     does-line rereads octets text client next is_over put line.Keys tells bad is = record {
-      answer = Reread is.1;
+      answer = Reread is.1.0;
       is = tells;
       acts = went-by-nothing hold fault is.0;
-      leaves = put ∙ ap₂ (λ (t : List ℕ) (b : Bool). client_with_answer client t b) is.3 bad;
+      leaves = put ∙ ap₂ (λ (t : List ℕ) (b : Bool). client_with_answer client t b) is.1.2 bad;
       tells = λ now honest rows start first done s. tt;
-      reread = is.2;
+      reread = is.1.1;
     }
     does-line rereads octets text client next is_over put (line.Misspelled word) tells bad is = record {
       answer = Refused (string_bytes word);

@@ -12,7 +12,7 @@ loop-at-preserved g c =
     let within : c.loop-at.at < length c.loop-at.self.clients.items = omega (arith, c.loop-at.self.clients.ok.0) in
     record {
       so = rw c.remove.ensures.items
-          (visits-gone g.T.Tables.state _ c.loop-at.invariant.so within _ c.index_mut.ensures.value c.if-branch.false
+          (visits-gone g.T.Tables.state _ c.loop-at.invariant.so within _ c.index_mut-client.ensures.value c.if-branch.false
           (rw c.loop-at.invariant.names at c.in_ok-visit.ensures.went));
       names = c.visit.ensures.names ∙ c.loop-at.invariant.names;
       front = reread-then g.F.Asks.rereads _ _ _ c.loop-at.invariant.front c.visit.ensures.front;
@@ -22,7 +22,7 @@ pub loop-at-preserved-then-branch : goal.loop-at-preserved-then-branch
 loop-at-preserved-then-branch g c =
     let within : c.loop-at.at < length c.loop-at.self.clients.items = omega (arith, c.loop-at.self.clients.ok.0) in
     record {
-      so = visits-kept g.T.Tables.state _ c.loop-at.invariant.so within _ c.index_mut.ensures.value c.if-branch.true
+      so = visits-kept g.T.Tables.state _ c.loop-at.invariant.so within _ c.index_mut-client.ensures.value c.if-branch.true
           (rw c.loop-at.invariant.names at c.in_ok-visit.ensures.went);
       names = c.visit.ensures.names ∙ c.loop-at.invariant.names;
       front = reread-then g.F.Asks.rereads _ _ _ c.loop-at.invariant.front c.visit.ensures.front;
@@ -35,4 +35,4 @@ pub returns-in_err-visit-clause-cut : goal.returns-in_err-visit-clause-cut
 returns-in_err-visit-clause-cut g c =
     let within : c.loop-at.at < length c.loop-at.self.clients.items = omega (arith, c.loop-at.self.clients.ok.0) in
     OnErr-known c.from_residual.result
-    (visits-halted g.T.Tables.state _ c.loop-at.invariant.so within _ c.index_mut.ensures.value c.in_err-visit.ensures.cut)
+    (visits-halted g.T.Tables.state _ c.loop-at.invariant.so within _ c.index_mut-client.ensures.value c.in_err-visit.ensures.cut)
