@@ -333,7 +333,10 @@ impl<H: Host> Network for H {
         watch(wires, &front.wires)?;
         wires.counted = Some(Counted::new(alloc));
         let keys = String::from_str(alloc, web.keys)?;
-        Ok((sockets, HttpSockets::new(alloc, self.runtime(), front, keys)))
+        Ok((
+            sockets,
+            HttpSockets::new(alloc, self.runtime(), front, keys),
+        ))
     }
 
     fn rest(&self, wires: &mut Self::Wired, most: Duration) -> io::Result<()> {

@@ -1,5 +1,5 @@
 -- The web front's keys, read anew several times.
-use Rattle.std.proofs.Common.{◌≡◌, List, [], ◌∷◌, ◌++◌, Result, refl, ◌∙◌, subst}
+use Rattle.std.proofs.Common.{List, [], ◌∷◌, ◌++◌, Result, refl, subst}
 use Rattle.dq_console.specs.declared.asks.KeysError.{KeysError}
 use Rattle.dq_console.specs.ClientTurns.{AreReread, IsReread}
 

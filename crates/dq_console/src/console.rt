@@ -320,7 +320,10 @@ impl<W: Wires + Drop, F: Asks + Drop> Console<W, F> {
         let mut at = 0;
         while at < self.clients.len() {
             let client = &mut self.clients[at];
-            if self.handler.visit(client, turner, backups, &mut self.front)? {
+            if self
+                .handler
+                .visit(client, turner, backups, &mut self.front)?
+            {
                 at += 1;
             } else {
                 let _ = self.clients.remove(at);

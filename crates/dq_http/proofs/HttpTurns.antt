@@ -1,5 +1,5 @@
 -- How the turns of all connections went, one after the other.
-use Rattle.std.proofs.Common.{◌≡◌, ◌<◌, ◌≤◌, ◌+◌, ◌++◌, ◌∷◌, ◌∙◌, ℕ, List, [], Option, length, length-append, append_assoc, append-nil, get_or, set, inl, inr, arith, refl, sym, ap}
+use Rattle.std.proofs.Common.{◌≡◌, ◌<◌, ◌+◌, ◌++◌, ◌∷◌, ◌∙◌, ℕ, List, [], Option, length, length-append, append_assoc, append-nil, get_or, set, inl, inr, arith, refl, sym, ap}
 use Rattle.std.specs.List.{remove}
 use Rattle.std.specs.declared.net.socket_addr.SocketAddr.{SocketAddr}
 use Rattle.dq_wires.proofs.TurnSequences.{get-at, set-at, remove-at}

@@ -11,8 +11,8 @@ use dq_config::Institution;
 use dq_list::Listed;
 use dq_request::Response;
 use dq_web::{
-    Counters, Cut, Framing, Guard, Head, HttpRequest, Judgement, Keys, ParsedRequest, Question, Refusal, Written,
-    answered, ask, cut_off, document, healthy, judge, misspelled, refused,
+    Counters, Cut, Framing, Guard, Head, HttpRequest, Judgement, Keys, ParsedRequest, Question,
+    Refusal, Written, answered, ask, cut_off, document, healthy, judge, misspelled, refused,
 };
 use httpdate::HttpDate;
 use std::alloc::{AllocError, Global};
