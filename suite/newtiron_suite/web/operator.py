@@ -192,13 +192,14 @@ def log(tally: Tally, folder: pathlib.Path) -> None:
                             for line in lines), lines)
         tally.check("the line of a request that cannot be read", any(
             re.fullmatch(rf"{FROM} - - - - 400 ms \d+", line) for line in lines), lines)
-        with pair.server.console() as desk:
-            desk.ask("keys")
+        with pair.server.console() as console:
+            console.ask("keys")
             (pair.folder / "keys").write_text("NORTH\n")
-            desk.ask("keys")
-        told = [line[25:] for line in path.read_text().split("\n") if " console keys" in line]
-        tally.check("the lines of keys that are read anew",
-                    told == ["- console keys done", "- console keys refused line 1"], told)
+            console.ask("keys")
+        # (a line is written after the caller has its answer)
+        tally.check("the lines of keys that are read anew", until(
+            lambda: re.findall(r"Z (- console keys .*)\n", path.read_text())
+            == ["- console keys done", "- console keys refused line 1"], 5), path.read_text())
         pair.ask("GET", "/health")
         for key in (*pair.keys.values(), desk, ris, watch):
             tally.check("no key", key not in path.read_text())
