@@ -2,8 +2,8 @@
 
 # the web front
 front=$top/suite/web
-passes 'the web front' "$front" "$right" page keys hospitals searches entries looks methods hosts grammar slow many metrics backup
-for one in page keys hospitals searches entries looks methods hosts grammar slow many metrics backup log curl; do
+passes 'the web front' "$front" "$right" page keys hospitals searches entries looks methods hosts viewers grammar slow many metrics backup
+for one in page keys hospitals searches entries looks methods hosts viewers grammar slow many metrics backup log curl; do
     notices "the web front: stops_at_once: $one" "$one" "$front" "$stops_at_once" "$one"
 done
 notices 'a page of other octets' '/page.js' "$front" "$(server 'web-page-with:PAGE:LEAF')" page
@@ -19,6 +19,7 @@ notices 'a look that withdraws' 'what is kept is as before' "$front" "$(server w
 notices 'a method of any name' 'a method' "$front" "$(server web-takes-any-method)" methods
 notices 'a body after HEAD' 'HEAD has no body' "$front" "$(server web-sends-a-body-to-head)" methods
 notices 'a host of any name' 'Host evil.example' "$front" "$(server web-takes-any-host)" hosts
+notices 'a viewer of any origin' 'the origin https://viewer' "$front" "$(server web-shares-with-anybody)" viewers
 notices 'a path that goes up' 'a path that goes up' "$front" "$(server web-paths-go-up)" methods
 notices 'a connection that stays open' 'it is closed at once' "$front" "$(server web-stays-open)" grammar
 notices 'a body that is awaited without a key' 'no 100 Continue' "$front" "$(server web-bids-anybody-go-on)" grammar

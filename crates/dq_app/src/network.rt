@@ -258,18 +258,27 @@ fn keys_of<F: Folder>(alloc: Global, folder: &F, path: &str) -> Result<Keys, Lis
     }
 }
 
-/// The guard of a web front: the keys of its file, and its host.
+/// The octets of a text, if there is one.
+fn octets_of(alloc: Global, text: Option<&str>) -> Result<Option<Listed<u8>>, AllocError>
+    ensures { IfOk result (λ octets. octets ≡ option_copied text.entry) }
+{
+    match text {
+        Some(text) => Ok(Some(Listed::copy_of(alloc, text.as_bytes())?)),
+        None => Ok(None),
+    }
+}
+
+/// The guard of a web front: the keys of its file, its host, and the origin of its viewer.
 fn guard_of<F: Folder>(alloc: Global, folder: &F, web: Web<'_>) -> Result<Guard, ListenError>
     ensures keys { IfOk result (λ guard. IfSome (F.held folder.now web.entry.keys.now) (λ octets.
         AreSpelled octets guard.keys.entries)) }
     ensures host { IfOk result (λ guard. guard.host ≡ option_copied web.entry.host) }
+    ensures viewer { IfOk result (λ guard. guard.viewer ≡ option_copied web.entry.origin) }
 {
     let keys = keys_of(alloc, folder, web.keys)?;
-    let host = match web.host {
-        Some(host) => Some(Listed::copy_of(alloc, host.as_bytes())?),
-        None => None,
-    };
-    Ok(Guard { keys, host })
+    let host = octets_of(alloc, web.host)?;
+    let viewer = octets_of(alloc, web.origin)?;
+    Ok(Guard { keys, host, viewer })
 }
 
 // The web front of institutions.

@@ -162,13 +162,20 @@ fn web_command<'a>(alloc: Global) -> Result<Command<'a>, AllocError>
         "The host that a proxy before it is called by",
     );
     let hosted = listening.arg(host)?;
+    let origin = value_option(
+        alloc,
+        "web-origin",
+        "ORIGIN",
+        "The origin of a viewer whose pages may search too, as https://viewer.example [default: none]",
+    );
+    let opened = hosted.arg(origin)?;
     let peers = value_option(
         alloc,
         "web-peer-connections",
         "N",
         "Closes a connection to it at once when N of its address are there; 0 is no limit [default: 16]",
     );
-    let fronted = hosted.arg(peers)?;
+    let fronted = opened.arg(peers)?;
     Ok(fronted)
 }
 

@@ -1,5 +1,5 @@
 -- The outcome for the octets that came from a connection.
-use Rattle.std.specs.Prelude.{◌≡◌, ℕ, true, false, IsTrue, List, Option, string_bytes}
+use Rattle.std.specs.Prelude.{◌≡◌, ◌⊎◌, ℕ, Bool, true, false, IsTrue, List, Option, None, string_bytes}
 use Rattle.httpdate.specs.declared.date.HttpDate.{HttpDate}
 use Rattle.dq_web.specs.declared.parsed_request.ParsedRequest.{ParsedRequest}
 use Rattle.dq_web.specs.declared.parsed_request.ParsedRequest.TheVariants as asked
@@ -12,7 +12,8 @@ use Rattle.dq_web.specs.declared.refusal.Refusal.{Refusal}
 use Rattle.dq_web.specs.declared.refusal.Refusal.TheVariants as refusal
 use Rattle.dq_web.specs.declared.replies.Framing.{Framing}
 use Rattle.dq_web.specs.declared.replies.Written.{Written}
-use Rattle.dq_web.specs.Answers.{IsWritten, refusal_reply, misspelled_reply, document_reply, health_reply}
+use Rattle.dq_web.specs.Answers.{IsWritten, refusal_reply, misspelled_reply, document_reply, preflight_reply, health_reply}
+use Rattle.dq_web.specs.Guards.{viewer_of}
 use Rattle.dq_web.specs.ParsedRequests.{IsAsked, IsQuestion, IsJudged}
 use Rattle.dq_web.specs.Requests.{IsCutOff, IsRequest, is_expecting, is_of_head}
 use Rattle.dq_http.specs.declared.http_state.Answer.{Answer}
@@ -31,6 +32,7 @@ IsOwnResponse (asked.Refused refusal) framing written = IsRefusal refusal framin
 IsOwnResponse (asked.Misspelled word) framing written = IsWritten (misspelled_reply (string_bytes word)) framing written
 IsOwnResponse (asked.Document document) framing written = IsWritten (document_reply document) framing written
 IsOwnResponse asked.Health framing written = IsWritten health_reply framing written
+IsOwnResponse asked.Preflight framing written = IsWritten preflight_reply framing written
 IsOwnResponse (asked.Question question) framing written = ⊥
 
 -- A request is given the response to what it asks, or the server is asked what it asks.
@@ -40,13 +42,22 @@ IsGiven guard request framing (given.Response written) =
 IsGiven guard request framing (given.Question question) = (it : Question)
     × IsQuestion guard request it × (question ≡ record it { framing = framing })
 
+-- how a response to a head is framed: pages of the viewer's origin may read it, where one of them sent the head
+pub record IsFramed (guard : Guard) (head : Head) (is_last : Bool) (framing : Framing) : Type 0 where
+  pub last : framing.is_last ≡ is_last
+  pub content : framing.is_head ≡ is_of_head head
+  pub viewer : framing.viewer ≡ viewer_of guard head.fields
+
+-- how one to octets is framed in which no head stands
+abbrev pub unread_framing : Option HttpDate → Framing
+unread_framing date = record { is_last = true; is_head = false; date = date; viewer = None }
+
 -- an answer is that of the request which stands at the front of the octets (RFC 9112)
 pub record IsAnswer (guard : Guard) (came : List ℕ) (answer : Answer) : Type 0 where
   pub request : HttpRequest
   pub framing : Framing
   pub stands : IsRequest came request
-  pub last : framing.is_last ≡ request.head.is_last
-  pub content : framing.is_head ≡ is_of_head request.head
+  pub framed : IsFramed guard request.head request.head.is_last framing
   pub given : IsGiven guard request framing answer.given
   pub extent : answer.extent ≡ request.extent
   pub ends : answer.is_last ≡ request.head.is_last
@@ -57,7 +68,12 @@ IsAwaited guard came head = IsCutOff came (cut.Begun head) × IsJudged guard hea
 
 -- the response to a request that did not come in the time that it has (RFC 9110 section 15.5.9)
 abbrev pub IsTooLate : Option HttpDate → Written → Type 0
-IsTooLate date written = IsRefusal refusal.Time (record { is_last = true; is_head = false; date = date }) written
+IsTooLate date written = IsRefusal refusal.Time (unread_framing date) written
+
+-- a refusal is framed by its head, if that has come, and the connection ends
+abbrev pub IsRefusalFraming : Guard → List ℕ → Framing → Type 0
+IsRefusalFraming guard came framing = ((date : Option HttpDate) × (framing ≡ unread_framing date))
+    ⊎ ((head : Head) × IsCutOff came (cut.Begun head) × IsFramed guard head true framing)
 
 -- Nothing is done for what is no whole head, or for a head that is let in, whose body is awaited; only such a
 -- sender is told to go on. A refusal ends the connection.
@@ -66,5 +82,5 @@ IsOutcome guard came outcome.AwaitHead = IsCutOff came cut.Unfinished
 IsOutcome guard came outcome.AwaitBody = (head : Head) × IsAwaited guard came head
 IsOutcome guard came outcome.GoOn = (head : Head) × IsAwaited guard came head × IsTrue (is_expecting head)
 IsOutcome guard came (outcome.Refuse words written) = (refusal : Refusal) × (framing : Framing)
-    × (framing.is_last ≡ true) × IsRefusal refusal framing written
+    × IsRefusalFraming guard came framing × IsRefusal refusal framing written
 IsOutcome guard came (outcome.Answer answer) = IsAnswer guard came answer

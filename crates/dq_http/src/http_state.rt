@@ -3,7 +3,7 @@ ghost use Rattle.std.specs.Prelude.{◌≡◌, ℕ, List, map, IfOk};
 ghost use Rattle.dq_web.specs.Answers.{IsReplyTo, IsResponse};
 ghost use Rattle.dq_web.specs.Requests.{IsCutOff, IsRequest};
 ghost use Rattle.dq_web.specs.declared.cutting.Cut.TheVariants as cut;
-ghost use Rattle.dq_http.specs.RequestOutcomes.{IsGiven, IsAnswer, IsOutcome, IsTooLate};
+ghost use Rattle.dq_http.specs.RequestOutcomes.{unread_framing, IsFramed, IsGiven, IsAnswer, IsOutcome, IsTooLate};
 ghost use Rattle.dq_http.specs.InstitutionLimits.{limits_of};
 
 use crate::request_log::{UNREADABLE, words_of};
@@ -12,7 +12,7 @@ use dq_list::Listed;
 use dq_request::Response;
 use dq_web::{
     Counters, Cut, Framing, Guard, Head, HttpRequest, ParsedRequest, Question, Refusal, Written,
-    answered, ask, cut_off, document, healthy, judge, misspelled, refused,
+    answered, ask, cut_off, document, healthy, judge, misspelled, permitted, refused,
 };
 use httpdate::HttpDate;
 use std::alloc::{AllocError, Global};
@@ -56,6 +56,18 @@ pub struct HttpState {
     guard: Guard,
     institutions: Vec<Institution>,
     counters: Counters,
+}
+
+/// How a response to octets is framed in which no head stands.
+fn unread_framing(date: Option<HttpDate>) -> Framing
+    ensures { result ≡ unread_framing date }
+{
+    Framing {
+        is_last: true,
+        is_head: false,
+        date,
+        viewer: None,
+    }
 }
 
 /// Returns the parts of an institution that count here: its name and its limits.
@@ -115,16 +127,29 @@ impl HttpState {
             Cut::Unfinished => Ok(RequestOutcome::AwaitHead),
             Cut::Begun(head) => self.outcome_for_head(&head, date),
             Cut::Refused(refusal) => {
-                let framing = Framing {
-                    is_last: true,
-                    is_head: false,
-                    date,
-                };
+                let framing = unread_framing(date);
                 let words = String::from_str(self.alloc, UNREADABLE)?;
-                Ok(RequestOutcome::Refuse(words, refused(self.alloc, refusal, framing)?))
+                Ok(RequestOutcome::Refuse(words, refused(self.alloc, refusal, &framing)?))
             }
             Cut::Whole(request) => Ok(RequestOutcome::Answer(self.answer_to(&request, date)?)),
         }
+    }
+
+    /// How a response to a head is framed.
+    fn framing_of(
+        &self,
+        head: &Head<'_>,
+        is_last: bool,
+        date: Option<HttpDate>,
+    ) -> Result<Framing, AllocError>
+        ensures { IfOk result (IsFramed self.now.guard head.now is_last) }
+    {
+        Ok(Framing {
+            is_last,
+            is_head: head.is_head(),
+            date,
+            viewer: self.guard.viewer_of(self.alloc, &head.fields)?,
+        })
     }
 
     /// Returns the outcome for a head whose body has not come.
@@ -136,15 +161,11 @@ impl HttpState {
         ensures { (came : List ℕ) → IsCutOff came (cut.Begun head.now)
             → IfOk result (IsOutcome self.now.guard came) }
     {
-        let framing = Framing {
-            is_last: true,
-            is_head: head.is_head(),
-            date,
-        };
+        let framing = self.framing_of(head, true, date)?;
         match judge(self.alloc, &self.guard, head)? {
             Some(refusal) => {
                 let words = words_of(self.alloc, head)?;
-                Ok(RequestOutcome::Refuse(words, refused(self.alloc, refusal, framing)?))
+                Ok(RequestOutcome::Refuse(words, refused(self.alloc, refusal, &framing)?))
             }
             None if head.is_expecting() => Ok(RequestOutcome::GoOn),
             None => Ok(RequestOutcome::AwaitBody),
@@ -155,12 +176,7 @@ impl HttpState {
     pub(crate) fn too_late(&self, date: Option<HttpDate>) -> Result<Written, AllocError>
         ensures { IfOk result (IsTooLate date) }
     {
-        let framing = Framing {
-            is_last: true,
-            is_head: false,
-            date,
-        };
-        refused(self.alloc, Refusal::Time, framing)
+        refused(self.alloc, Refusal::Time, &unread_framing(date))
     }
 
     /// The words in the log of a request that has not come whole.
@@ -177,14 +193,17 @@ impl HttpState {
     {
         let alloc = self.alloc;
         match ask(alloc, &self.guard, request)? {
-            ParsedRequest::Refused(refusal) => Ok(Given::Response(refused(
-                alloc, refusal, framing,
-            )?)),
-            ParsedRequest::Misspelled(word) => {
-                Ok(Given::Response(misspelled(alloc, word.as_str(), framing)?))
+            ParsedRequest::Refused(refusal) => {
+                Ok(Given::Response(refused(alloc, refusal, &framing)?))
             }
-            ParsedRequest::Document(which) => Ok(Given::Response(document(alloc, which, framing)?)),
-            ParsedRequest::Health => Ok(Given::Response(healthy(alloc, framing)?)),
+            ParsedRequest::Misspelled(word) => {
+                Ok(Given::Response(misspelled(alloc, word.as_str(), &framing)?))
+            }
+            ParsedRequest::Document(which) => {
+                Ok(Given::Response(document(alloc, which, &framing)?))
+            }
+            ParsedRequest::Health => Ok(Given::Response(healthy(alloc, &framing)?)),
+            ParsedRequest::Preflight => Ok(Given::Response(permitted(alloc, &framing)?)),
             ParsedRequest::Question(mut question) => {
                 question.framing = framing;
                 Ok(Given::Question(question))
@@ -202,11 +221,7 @@ impl HttpState {
             → IfOk result (IsAnswer self.now.guard came) }
     {
         let is_last = request.head.is_last;
-        let framing = Framing {
-            is_last,
-            is_head: request.head.is_head(),
-            date,
-        };
+        let framing = self.framing_of(&request.head, is_last, date)?;
         let words = words_of(self.alloc, &request.head)?;
         Ok(Answer {
             words,

@@ -1,3 +1,4 @@
 pub mod Among
 pub mod Orders
 pub mod Taking
+pub mod Viewers

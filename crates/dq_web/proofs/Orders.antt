@@ -8,7 +8,7 @@ use Rattle.dq_request.specs.Searches.{TakesWords}
 use Rattle.dq_web.specs.declared.resource.Resource.{Resource}
 use Rattle.dq_web.specs.declared.resource.Resource.TheVariants.{Metrics, Backup, Counts, Studies, Series, Images, Worklist, Entry, Steps}
 use Rattle.dq_web.specs.declared.parsed_request.Method.{Method}
-use Rattle.dq_web.specs.declared.parsed_request.Method.TheVariants.{Get, Post, Delete, Other}
+use Rattle.dq_web.specs.declared.parsed_request.Method.TheVariants.{Get, Post, Delete, Preflight, Other}
 use Rattle.dq_web.specs.declared.parsed_request.Method.TheVariants as method
 use Rattle.dq_web.specs.ParsedRequests.{IsMethod, owner_of, words_in, IsSearchAt, Searching, Looking, IsBackup, Posting, Deleting, Asks, IsLook, owner_of_request}
 use Rattle.dq_web.specs.Resources.{IsPath, beneath}
@@ -59,6 +59,7 @@ Asks-owner Get resource query body request asks = Looking-owner resource query r
 Asks-owner method.Head resource query body request asks = Looking-owner resource query request asks
 Asks-owner Post resource query body request asks = Posting-owner resource body request asks
 Asks-owner Delete resource query body request asks = Deleting-owner resource request asks
+Asks-owner Preflight resource query body request asks = absurd asks
 Asks-owner Other resource query body request asks = absurd asks
 
 Searching-look : (resource : Resource) (query : List ℕ) (request : Request) → Searching resource query request → IsLook request
@@ -79,6 +80,7 @@ Asks-look Get resource text query body request is asks post delete = Looking-loo
 Asks-look method.Head resource text query body request is asks post delete = Looking-look resource query request asks
 Asks-look Post resource text query body request is asks post delete = absurd (post is)
 Asks-look Delete resource text query body request is asks post delete = absurd (delete is)
+Asks-look Preflight resource text query body request is asks post delete = absurd asks
 Asks-look Other resource text query body request is asks post delete = absurd asks
 
 -- the path of an institution
@@ -127,6 +129,7 @@ searches Post Backup query body request search asks is = absurd (subst (IsBackup
 searches Post resource query body request search asks is = absurd asks
 searches Delete (Entry name id) query body request search asks is = cc
 searches Delete resource query body request search asks is = absurd asks
+searches Preflight resource query body request search asks is = absurd asks
 searches Other resource query body request search asks is = absurd asks
 
 -- what is scheduled comes from POST at the worklist
@@ -146,6 +149,7 @@ schedules Post Backup text path query body request institution octets named at a
 schedules Post resource text path query body request institution octets named at asks is = absurd asks
 schedules Delete (Entry name id) text path query body request institution octets named at asks is = cc
 schedules Delete resource text path query body request institution octets named at asks is = absurd asks
+schedules Preflight resource text path query body request institution octets named at asks is = absurd asks
 schedules Other resource text path query body request institution octets named at asks is = absurd asks
 
 -- what is withdrawn comes from DELETE of an entry
@@ -166,6 +170,7 @@ withdraws Delete (Entry name said) text path query body request institution id n
     let own : institution ≡ name.now = cc in
     (said.now, named, at_own institution at.0 at.1 _ path at.2 (own ∙ at.3.0) at.3.1, cc)
 withdraws Delete resource text path query body request institution id named at asks is = absurd asks
+withdraws Preflight resource text path query body request institution id named at asks is = absurd asks
 withdraws Other resource text path query body request institution id named at asks is = absurd asks
 
 -- all rows are copied by POST at /backup
@@ -183,4 +188,5 @@ backs_up Post Backup text path query body request file named at asks is =
 backs_up Post resource text path query body request file named at asks is = absurd asks
 backs_up Delete (Entry name id) text path query body request file named at asks is = cc
 backs_up Delete resource text path query body request file named at asks is = absurd asks
+backs_up Preflight resource text path query body request file named at asks is = absurd asks
 backs_up Other resource text path query body request file named at asks is = absurd asks

@@ -216,6 +216,10 @@ document_reply document.Page = plain status.Done kind.Page INDEX.now
 document_reply document.Style = plain status.Done kind.Style STYLE.now
 document_reply document.Script = plain status.Done kind.Script SCRIPT.now
 
+-- leave is given to look
+abbrev pub preflight_reply : Reply
+preflight_reply = plain status.Preflight kind.Text []
+
 -- the front is there
 abbrev pub health_reply : Reply
 health_reply = plain status.Done kind.Text (codes "ok\n")

@@ -1,5 +1,5 @@
 -- The questions that HTTP requests ask of the server.
-use Rattle.std.specs.Prelude.{◌≡◌, ◌⊎◌, ◌==◌, ℕ, ◌++◌, ◌&&◌, ◌||◌, not, nat_le, Bool, true, false, IsTrue, List, [], ◌∷◌, length, filter, codes, string_bytes, Option, Some, is_some, option_copied}
+use Rattle.std.specs.Prelude.{◌≡◌, ◌⊎◌, ◌==◌, ℕ, ◌++◌, ◌&&◌, ◌||◌, not, nat_le, if◌then◌else◌, Bool, true, false, IsTrue, List, [], ◌∷◌, length, filter, codes, string_bytes, Option, Some, is_some, option_copied}
 use Rattle.std.specs.List.{list_all, list_any, slice_split, starts_with}
 use Rattle.std.specs.Option.{option_and_then}
 use Rattle.std.specs.Str.{bytes_eq}
@@ -19,6 +19,8 @@ use Rattle.dq_web.specs.declared.cutting.Fields.{Fields}
 use Rattle.dq_web.specs.declared.cutting.Head.{Head}
 use Rattle.dq_web.specs.declared.cutting.HttpRequest.{HttpRequest}
 use Rattle.dq_web.specs.declared.guard.Guard.{Guard}
+use Rattle.dq_web.specs.declared.guard.Openness.{Openness}
+use Rattle.dq_web.specs.declared.guard.Openness.TheVariants.{Closed, Tab, Viewer}
 use Rattle.dq_web.specs.declared.resource.Resource.{Resource}
 use Rattle.dq_web.specs.declared.resource.Resource.TheVariants.{Page, Style, Script, Health, Metrics, Backup, Counts, Studies, Series, Images, Unsearched, Worklist, Entry, Steps}
 use Rattle.dq_web.specs.declared.parsed_request.Aim.{Aim}
@@ -27,13 +29,13 @@ use Rattle.dq_web.specs.declared.parsed_request.ParsedRequest.TheVariants as ask
 use Rattle.dq_web.specs.declared.parsed_request.Document.{Document}
 use Rattle.dq_web.specs.declared.parsed_request.Document.TheVariants as document
 use Rattle.dq_web.specs.declared.parsed_request.Method.{Method}
-use Rattle.dq_web.specs.declared.parsed_request.Method.TheVariants.{Get, Post, Delete, Other}
+use Rattle.dq_web.specs.declared.parsed_request.Method.TheVariants.{Get, Post, Delete, Preflight, Other}
 use Rattle.dq_web.specs.declared.parsed_request.Method.TheVariants as method
 use Rattle.dq_web.specs.declared.parsed_request.Question.{Question}
 use Rattle.dq_web.specs.declared.parsed_request.Wanted.{Wanted}
 use Rattle.dq_web.specs.declared.parsed_request.Wanted.TheVariants as wanted
 use Rattle.dq_web.specs.declared.parsed_request.Wish.{Wish}
-use Rattle.dq_web.specs.Guards.{IsAdmitted, IsOpened}
+use Rattle.dq_web.specs.Guards.{is_preflight, IsSameOrigin, IsAdmitted, IsOpened}
 use Rattle.dq_web.specs.Resources.{IsPath, beneath}
 
 -- no space, no control and nothing past ASCII: 21H to 7EH
@@ -60,7 +62,54 @@ IsMethod text Get = text ≡ codes "GET"
 IsMethod text method.Head = text ≡ codes "HEAD"
 IsMethod text Post = text ≡ codes "POST"
 IsMethod text Delete = text ≡ codes "DELETE"
+IsMethod text Preflight = text ≡ codes "OPTIONS"
 IsMethod text Other = Unit {0}
+
+-- leave is asked to look (the CORS-preflight request of the Fetch standard)
+abbrev pub is_leave_asked : Method → Bool
+is_leave_asked Preflight = true
+is_leave_asked by = false
+
+-- only for a page of the viewer's origin
+abbrev pub IsLeaveAsked : Guard → Fields → Method → Type 0
+IsLeaveAsked guard fields Preflight = IsTrue (is_preflight guard fields)
+IsLeaveAsked guard fields by = Unit {0}
+
+-- the method of a head
+pub record IsMethodOf (guard : Guard) (head : Head) (by : Method) : Type 0 where
+  pub text : IsMethod head.method.now by
+  pub leave : IsLeaveAsked guard head.fields by
+
+-- ---- what pages of other sites may send
+
+-- searched for what an institution keeps, or counted
+abbrev pub is_searched : Resource → Bool
+is_searched (Counts name) = true
+is_searched (Studies name) = true
+is_searched (Series name study) = true
+is_searched (Images name study series) = true
+is_searched (Unsearched name) = true
+is_searched (Worklist name) = true
+is_searched (Steps name) = true
+is_searched resource = false
+
+-- it changes nothing
+abbrev pub only_looks : Method → Bool
+only_looks Get = true
+only_looks method.Head = true
+only_looks Preflight = true
+only_looks by = false
+
+abbrev pub is_page : Resource → Bool
+is_page Page = true
+is_page resource = false
+
+-- The page for people may be opened from each site, in a tab. What is searched may be looked at by pages of the
+-- viewer's origin.
+abbrev pub openness_of : Resource → Method → Openness
+openness_of resource by = if is_page resource then Tab
+    else if is_searched resource && only_looks by then Viewer
+    else Closed
 
 -- whose key opens a resource: an institution's, or the operator's
 abbrev pub owner_of : Resource → List ℕ
@@ -172,6 +221,7 @@ Asks Get resource query body request = Looking resource query request
 Asks method.Head resource query body request = Looking resource query request
 Asks Post resource query body request = Posting resource body request
 Asks Delete resource query body request = Deleting resource request
+Asks Preflight resource query body request = ⊥
 Asks Other resource query body request = ⊥
 
 -- what a search found is answered as JSON, which is accepted (RFC 9110 section 12.5.1)
@@ -228,12 +278,8 @@ is_plain_segment segment = is_plain (percent_decode segment)
 abbrev pub is_plain_path : List ℕ → Bool
 is_plain_path path = list_all is_plain_segment (slice_split (λ octet. octet == 47) path)
 
-abbrev pub is_page : Resource → Bool
-is_page Page = true
-is_page resource = false
-
--- A head is let in as it aims: for a host of the front and from no page of another origin, at a path whose
--- segments are plain, by a method. A head of HTTP/1.1 has a Host (RFC 9112 section 3.2).
+-- A head is let in as it aims: for a host of the front and from no page of another origin to which it is not open, at a
+-- path whose segments are plain, by a method. A head of HTTP/1.1 has a Host (RFC 9112 section 3.2).
 pub record IsLetIn (guard : Guard) (head : Head) (aim : Aim) : Type 0 where
   pub host : List ℕ
   pub text : List ℕ
@@ -244,8 +290,8 @@ pub record IsLetIn (guard : Guard) (head : Head) (aim : Aim) : Type 0 where
   pub split : IsPathAndQuery text path aim.query.now
   pub plain : IsTrue (is_plain_path path)
   pub at_resource : IsPath path aim.resource
-  pub by_method : IsMethod head.method.now aim.method
-  pub admitted : IsAdmitted guard.host host (is_page aim.resource) head.fields
+  pub by_method : IsMethodOf guard head aim.method
+  pub admitted : IsAdmitted guard host (openness_of aim.resource aim.method) head.fields
 
 -- what everybody may see
 abbrev pub is_open : Resource → Bool
@@ -305,6 +351,7 @@ IsAsked guard request (asked.Misspelled word) = IsMisspelled guard request (stri
 IsAsked guard request (asked.Document document) =
     (aim : Aim) × IsLetIn guard request.head aim × (aim.resource ≡ document_resource document)
 IsAsked guard request asked.Health = (aim : Aim) × IsLetIn guard request.head aim × (aim.resource ≡ Health)
+IsAsked guard request asked.Preflight = (aim : Aim) × IsLetIn guard request.head aim × IsTrue (is_leave_asked aim.method)
 
 -- ---- laws
 
@@ -314,6 +361,11 @@ IsLook (ask.Search search) = Unit {0}
 IsLook (ask.Counts name) = Unit {0}
 IsLook ask.Report = Unit {0}
 IsLook request = ⊥
+
+-- a page of another site sent a head: its Origin is not that of the host to which it came
+abbrev pub IsForeign : Head → Type 0
+IsForeign head = (host text : List ℕ) → IsTarget head.target.now (option_copied head.fields.host) host text
+    → IsSameOrigin host (option_copied head.fields.origin) → ⊥
 
 -- a request of HTTP has this path
 abbrev pub IsAtPath : HttpRequest → List ℕ → Type 0

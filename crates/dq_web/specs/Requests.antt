@@ -70,6 +70,7 @@ pub record AreFields (pairs : List (List ℕ × List ℕ)) (fields : Fields) : T
   pub origin : IsSole (codes "origin") pairs (option_copied fields.origin)
   pub fetch_site : IsSole (codes "sec-fetch-site") pairs (option_copied fields.fetch_site)
   pub fetch_dest : IsSole (codes "sec-fetch-dest") pairs (option_copied fields.fetch_dest)
+  pub request_method : IsSole (codes "access-control-request-method") pairs (option_copied fields.request_method)
   pub authorization : IsSole (codes "authorization") pairs (option_copied fields.authorization)
   pub expect : IsSole (codes "expect") pairs (option_copied fields.expect)
   pub content_length : IsSole (codes "content-length") pairs (option_copied fields.content_length)

@@ -24,6 +24,8 @@ pub struct Fields<'a> {
     pub origin: Option<&'a [u8]>,
     pub fetch_site: Option<&'a [u8]>,
     pub fetch_dest: Option<&'a [u8]>,
+    /// The method that a page of another origin asks leave for.
+    pub request_method: Option<&'a [u8]>,
     pub authorization: Option<&'a [u8]>,
     pub expect: Option<&'a [u8]>,
     pub content_length: Option<&'a [u8]>,
@@ -189,6 +191,7 @@ fn fields_of<'a>(octets: &'a [u8], headers: &[HeaderSpan]) -> Result<Fields<'a>,
     let origin = sole_value(octets, headers, b"origin")?;
     let fetch_site = sole_value(octets, headers, b"sec-fetch-site")?;
     let fetch_dest = sole_value(octets, headers, b"sec-fetch-dest")?;
+    let request_method = sole_value(octets, headers, b"access-control-request-method")?;
     let authorization = sole_value(octets, headers, b"authorization")?;
     let expect = sole_value(octets, headers, b"expect")?;
     let content_length = sole_value(octets, headers, b"content-length")?;
@@ -198,6 +201,7 @@ fn fields_of<'a>(octets: &'a [u8], headers: &[HeaderSpan]) -> Result<Fields<'a>,
         origin,
         fetch_site,
         fetch_dest,
+        request_method,
         authorization,
         expect,
         content_length,

@@ -4,10 +4,10 @@ ghost use Rattle.std.specs.List.{list_all, list_any, starts_with};
 ghost use Rattle.std.specs.Str.{bytes_eq};
 ghost use Rattle.percent_encoding.specs.Percent.{percent_decode};
 ghost use Rattle.dq_request.specs.Searches.{TakesWords, StopsAt, name_in};
-ghost use Rattle.dq_web.specs.ParsedRequests.{is_visible, is_printable, is_silent, is_attribute, is_unknown, is_left_out, parts_of, words_among, words_in, uid_key, hundred_of, series_of, images_of, IsSearchAt, owner_of, IsPathAndQuery, IsTarget, IsMethod, IsLooked, IsBackup, Posting, Deleting, IsWanted, has_no_slash, is_plain_segment, is_plain_path, is_page, IsLetIn, IsJudged, is_fuzzy, wish_of, IsAsked};
+ghost use Rattle.dq_web.specs.ParsedRequests.{is_visible, is_printable, is_silent, is_attribute, is_unknown, is_left_out, parts_of, words_among, words_in, uid_key, hundred_of, series_of, images_of, IsSearchAt, is_searched, only_looks, openness_of, is_leave_asked, owner_of, IsPathAndQuery, IsTarget, IsMethodOf, IsLooked, IsBackup, Posting, Deleting, IsWanted, has_no_slash, is_plain_segment, is_plain_path, is_page, IsLetIn, IsJudged, is_fuzzy, wish_of, IsAsked};
 
 use crate::cutting::{Fields, Head, HttpRequest};
-use crate::guard::Guard;
+use crate::guard::{Guard, Openness};
 use crate::keys::OPERATOR;
 use crate::refusal::{Allowed, Refusal};
 use crate::replies::Framing;
@@ -58,6 +58,8 @@ pub enum ParsedRequest {
     Misspelled(String),
     Document(Document),
     Health,
+    /// Leave for a page of the viewer's origin to look at something.
+    Preflight,
     Question(Question),
 }
 
@@ -68,6 +70,8 @@ pub enum Method {
     Head,
     Post,
     Delete,
+    /// OPTIONS, by which leave is asked for a page of the viewer's origin to look at something.
+    Preflight,
     Other,
 }
 
@@ -77,6 +81,14 @@ pub struct Aim<'a> {
     pub resource: Resource<'a>,
     pub method: Method,
     pub query: &'a str,
+}
+
+impl Method {
+    fn is_preflight(self) -> bool
+        ensures { result ≡ is_leave_asked self }
+    {
+        matches!(self, Method::Preflight)
+    }
 }
 
 /// The result of reading a path, a method, a query and a body.
@@ -230,10 +242,10 @@ fn is_plain_path(alloc: Global, path: &str) -> Result<bool, AllocError>
     Ok(are_plain)
 }
 
-fn method_of(method: &[u8]) -> Method
-    ensures { IsMethod method.now result }
+fn method_of(guard: &Guard, head: &Head<'_>) -> Method
+    ensures { IsMethodOf guard.now head.now result }
 {
-    let Ok(method) = str::from_utf8(method) else {
+    let Ok(method) = str::from_utf8(head.method) else {
         return Method::Other;
     };
     match method {
@@ -241,6 +253,13 @@ fn method_of(method: &[u8]) -> Method
         "HEAD" => Method::Head,
         "POST" => Method::Post,
         "DELETE" => Method::Delete,
+        "OPTIONS" => {
+            if guard.is_preflight(&head.fields) {
+                Method::Preflight
+            } else {
+                Method::Other
+            }
+        }
         _ => Method::Other,
     }
 }
@@ -263,12 +282,52 @@ fn check_method(resource: Resource<'_>, method: Method) -> Result<(), Refusal> {
         Method::Get | Method::Head => { allowed == Allowed::Get || allowed == Allowed::GetAndPost }
         Method::Post => allowed == Allowed::Post || allowed == Allowed::GetAndPost,
         Method::Delete => allowed == Allowed::Delete,
+        Method::Preflight => is_searched(resource),
         Method::Other => false,
     };
     if is_allowed {
         Ok(())
     } else {
         Err(Refusal::Method(allowed))
+    }
+}
+
+/// Whether a resource is searched for what an institution keeps, or counts it.
+fn is_searched(resource: Resource<'_>) -> bool
+    ensures { result ≡ is_searched resource.entry }
+{
+    match resource {
+        Resource::Counts(_)
+        | Resource::Studies(_)
+        | Resource::Series(..)
+        | Resource::Images(..)
+        | Resource::Unsearched(_)
+        | Resource::Worklist(_)
+        | Resource::Steps(_) => true,
+        _ => false,
+    }
+}
+
+/// Whether a method only looks, or asks leave for that.
+fn only_looks(method: Method) -> bool
+    ensures { result ≡ only_looks method }
+{
+    match method {
+        Method::Get | Method::Head | Method::Preflight => true,
+        Method::Post | Method::Delete | Method::Other => false,
+    }
+}
+
+/// The pages of other sites that may send a request of a method for a resource.
+fn openness_of(resource: Resource<'_>, method: Method) -> Openness
+    ensures { result ≡ openness_of resource.entry method }
+{
+    if is_page(resource) {
+        Openness::Tab
+    } else if is_searched(resource) && only_looks(method) {
+        Openness::Viewer
+    } else {
+        Openness::Closed
     }
 }
 
@@ -552,7 +611,7 @@ fn wanted_by(
         Method::Get | Method::Head => look_at(alloc, aim.resource, fields, aim.query),
         Method::Post => Ok(Wanted::Request(post_at(alloc, aim.resource, body)?)),
         Method::Delete => Ok(Wanted::Request(delete_at(alloc, aim.resource)?)),
-        Method::Other => Err(Unasked::Refused(Refusal::Path)),
+        Method::Preflight | Method::Other => Err(Unasked::Refused(Refusal::Path)),
     }
 }
 
@@ -593,8 +652,8 @@ fn let_in<'a>(alloc: Global, guard: &Guard, head: &Head<'a>) -> Result<Aim<'a>, 
     let (path, query) = path_and_query(text);
     check_path(alloc, path)?;
     let resource = resource_of(path);
-    guard.admit(host, is_page(resource), &head.fields)?;
-    let method = method_of(head.method);
+    let method = method_of(guard, head);
+    guard.admit(host, openness_of(resource, method), &head.fields)?;
     check_method(resource, method)?;
     Ok(Aim {
         resource,
@@ -615,6 +674,7 @@ fn question_of(asked: Request, wish: Wish) -> Question
             is_last: false,
             is_head: false,
             date: None,
+            viewer: None,
         },
     }
 }
@@ -628,6 +688,9 @@ fn answer_for(
     ensures { IfOk result (IsAsked guard.now request.now) }
 {
     let aim = let_in(alloc, guard, &request.head)?;
+    if aim.method.is_preflight() {
+        return Ok(ParsedRequest::Preflight);
+    }
     match aim.resource {
         Resource::Page => Ok(ParsedRequest::Document(Document::Page)),
         Resource::Style => Ok(ParsedRequest::Document(Document::Style)),

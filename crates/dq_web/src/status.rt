@@ -10,6 +10,8 @@ pub enum Status {
     Done,
     Created,
     NoContent,
+    /// No content, and leave to look.
+    Preflight,
     BadRequest,
     Unauthorized,
     Forbidden,
@@ -35,7 +37,7 @@ impl Status {
         match self {
             Status::Done => 200,
             Status::Created => 201,
-            Status::NoContent => 204,
+            Status::NoContent | Status::Preflight => 204,
             Status::BadRequest => 400,
             Status::Unauthorized => 401,
             Status::Forbidden => 403,
@@ -61,7 +63,7 @@ impl Status {
         match self {
             Status::Done => "200 OK",
             Status::Created => "201 Created",
-            Status::NoContent => "204 No Content",
+            Status::NoContent | Status::Preflight => "204 No Content",
             Status::BadRequest => "400 Bad Request",
             Status::Unauthorized => "401 Unauthorized",
             Status::Forbidden => "403 Forbidden",

@@ -41,6 +41,14 @@ LITERAL = ('299 newtiron "The fuzzymatching parameter is not supported. Only lit
 IGNORED = '299 newtiron "An unknown parameter was ignored."'
 # The same where a page has as many answers as it may have.
 FULL = '299 newtiron "The page is full. Additional results can be requested by offset."'
+# The methods that only look; what a response to a page of the viewer's origin says besides, and
+# what one to a CORS-preflight request (the CORS protocol of the Fetch standard).
+LOOKS = ("GET", "HEAD")
+SHARED = {"Access-Control-Expose-Headers": "Warning", "Vary": "Origin"}
+PREFLIGHT = {"Access-Control-Allow-Methods": "GET, HEAD",
+             "Access-Control-Allow-Headers": "Accept, Authorization",
+             "Access-Control-Max-Age": "600"}
+CORS = {"access-control-allow-origin", *map(str.lower, [*SHARED, *PREFLIGHT])}
 # The statuses of the refusals of orders.
 REFUSED_ORDERS = {1: 400, 2: 400, 3: 409, 4: 507, 5: 404, 6: 404}
 
@@ -215,9 +223,10 @@ class Front:
     operator."""
 
     def __init__(self, institutions: list[Institution], keys: dict[str, str],
-                 host: str | None = None) -> None:
+                 host: str | None = None, viewer: str | None = None) -> None:
         self.institutions, self.keys = {one.name: one for one in institutions}, keys
         self.hosts = {"127.0.0.1", "localhost", "[::1]"} | ({host} if host else set())
+        self.viewer = viewer
 
     def answer(self, method: str, target: str, fields: dict[str, str], body: bytes = b"",
                is_old: bool = False) -> Answer:
@@ -225,9 +234,22 @@ class Front:
         lower case; that to HEAD is that to GET. Of what is the server's own, as the page, the
         metrics and a backup, it has the status and the kind alone."""
         why = self.judged(method, target, fields, is_old)
-        if why:
-            return why
+        return why or self.shared(self.given(method, target, fields, body), fields)
+
+    def shared(self, answer: Answer, fields: dict[str, str]) -> Answer:
+        """An answer, which pages of the viewer's origin may read where one of them asked."""
+        if self.is_of_viewer(fields):
+            answer.fields |= {"Access-Control-Allow-Origin": self.viewer, **SHARED}
+        return answer
+
+    def is_of_viewer(self, fields: dict[str, str]) -> bool:
+        return self.viewer is not None and fields.get("origin") == self.viewer
+
+    def given(self, method: str, target: str, fields: dict[str, str], body: bytes) -> Answer:
+        """The answer to a request that is let in."""
         path, _, query = host_and_path(target, None)[1].partition("?")
+        if method == "OPTIONS":
+            return Answer(204, fields=dict(PREFLIGHT))
         if path in OPEN or path in OPERATORS:
             return Answer(200, OPEN.get(path, TEXT))
         name, words, methods = place_of(path)
@@ -238,14 +260,24 @@ class Front:
 
     def judged(self, method: str, target: Any, fields: Any, is_old: bool = False) -> Any:
         """The refusal of a request by its head; None where its body is read."""
+        why = self.why_refused(method, target, fields, is_old)
+        return why and self.shared(why, fields)
+
+    def why_refused(self, method: str, target: Any, fields: Any, is_old: bool) -> Any:
         host, target = host_and_path(target, fields.get("host"))
         path = target.partition("?")[0]
         if "host" not in fields and not is_old or not is_plain(path):
             return refused(400, "request")
         why = self.not_admitted(host, path, fields)
+        name, _, methods = place_of(path)
+        if (why is None or why.status == 403) and self.is_of_viewer(fields) and name not in (
+                "", "*") and "GET" in methods:
+            # (looking is open to the viewer, and so is asking for leave to look)
+            if method == "OPTIONS" and fields.get("access-control-request-method") in LOOKS:
+                return None
+            why = None if method in LOOKS else why
         if why:
             return why
-        name, _, methods = place_of(path)
         if not methods:
             return refused(404, "path")
         if looking(method) not in methods:

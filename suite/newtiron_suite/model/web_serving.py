@@ -38,7 +38,7 @@ TOKEN = rb"[!#$%&'*+.^_`|~0-9A-Za-z-]+"
 KEY_LINE = re.compile(r"(\*|[A-Z0-9_]{1,16}) ([0-9a-fA-F]{64})")
 # The fields that count, each of which may stand once.
 SINGLE = {"host", "content-length", "transfer-encoding", "authorization", "origin",
-          "sec-fetch-site", "sec-fetch-dest", "expect"}
+          "sec-fetch-site", "sec-fetch-dest", "access-control-request-method", "expect"}
 # Lists, whose values are joined (RFC 9110 section 5.3).
 LISTS = {"connection", "accept"}
 SERVICES = {C_ECHO: "echo", C_FIND: "find", C_STORE: "store", N_CREATE: "create", N_SET: "set"}
@@ -149,8 +149,8 @@ class Keyed(web.Front):
     """The model's front, which knows digests of keys."""
 
     def __init__(self, institutions: list[Institution], digests: dict[str, set[str]],
-                 host: str) -> None:
-        super().__init__(institutions, {}, host)
+                 host: str | None, viewer: str | None) -> None:
+        super().__init__(institutions, {}, host, viewer)
         self.digests = digests
 
     def is_opened(self, name: str, fields: dict[str, str]) -> bool:
@@ -186,9 +186,9 @@ class WebService:
     """The front beside the service of associations, whose events are `keeping`'s."""
 
     def __init__(self, keeping: Keeping, digests: dict[str, set[str]], address: tuple[str, int],
-                 host: str) -> None:
+                 host: str | None, viewer: str | None) -> None:
         self.keeping, self.counters, self.callers = keeping, Counters(), []
-        self.front = Keyed(keeping.server.institutions, digests, host)
+        self.front = Keyed(keeping.server.institutions, digests, host, viewer)
         family = socket.AF_INET6 if ":" in address[0] else socket.AF_INET
         self.listener = socket.create_server(address, family=family, backlog=128)
         self.listener.setblocking(False)
@@ -348,4 +348,4 @@ def begun(keeping: Keeping, words: argparse.Namespace) -> WebService | None:
     if words.web is None:
         return None
     return WebService(keeping, read_keys(words.web_keys), (words.web_listen or HOST, words.web),
-                      words.web_host)
+                      words.web_host, words.web_origin)

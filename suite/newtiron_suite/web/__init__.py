@@ -13,6 +13,7 @@
     methods     other methods, HEAD, paths that are none, and those that go up
     hosts       names of the host, targets in absolute-form, origins and sites that are refused,
                 links of other sites
+    viewers     a viewer of another origin: what its pages may read, and other origins
     grammar     requests that are none, that are too long, that come in pieces or many at once;
                 100-continue, and HTTP/1.0
     slow        clients that say nothing or read nothing: others are served beside them
@@ -46,13 +47,14 @@ from .others import nginx, orthanc
 from .page import browser, items, lists, page, picture
 from .requests import grammar, hosts, methods
 from .searches import hospitals, searches
+from .viewers import viewers
 
 PARTS: dict[str, Part] = {
     "page": page, "keys": keys, "hospitals": hospitals, "searches": searches, "entries": entries,
-    "looks": looks, "methods": methods, "hosts": hosts, "grammar": grammar, "slow": slow,
-    "late": late, "crowd": crowd, "many": many, "metrics": metrics, "backup": backup, "log": log,
-    "curl": curl, "lists": lists, "items": items, "browser": browser, "orthanc": orthanc,
-    "nginx": nginx,
+    "looks": looks, "methods": methods, "hosts": hosts, "viewers": viewers, "grammar": grammar,
+    "slow": slow, "late": late, "crowd": crowd, "many": many, "metrics": metrics, "backup": backup,
+    "log": log, "curl": curl, "lists": lists, "items": items, "browser": browser,
+    "orthanc": orthanc, "nginx": nginx,
 }
 
 

@@ -68,15 +68,17 @@ class Pair:
     """The program with its front, and the model: what happens happens to both."""
 
     def __init__(self, folder: pathlib.Path, *words: pathlib.Path | str,
-                 configuration: str = "hospitals", web_host: str | None = None) -> None:
+                 configuration: str = "hospitals", web_host: str | None = None,
+                 web_origin: str | None = None) -> None:
         self.folder = pathlib.Path(tempfile.mkdtemp(dir=folder))
         path = CONFIGURATIONS / f"{configuration}.toml"
         self.model = replies.Server(replies.read_configuration(path.read_text()))
         self.keys = {name: key_line(self.folder, name)
                      for name in [*[one.name for one in self.model.institutions], "*"]}
-        self.front = web.Front(self.model.institutions, self.keys, web_host)
+        self.front = web.Front(self.model.institutions, self.keys, web_host, web_origin)
         self.port = free_port()
         host = ["--web-host", web_host] if web_host else []
+        host += ["--web-origin", web_origin] if web_origin else []
         self.server = Serving(PROGRAM, "--config", path, "--web", self.port, "--web-keys",
                               self.folder / "keys", *host, *words,
                               has_console=True)
@@ -122,8 +124,10 @@ class Pair:
                     and told.body == content)
         for field, value in wanted.fields.items():
             is_right = is_right and told.fields.get(field.lower()) == value
+        others = web.CORS - {field.lower() for field in wanted.fields}
+        is_right = is_right and not others & set(told.fields)
         tally.check(f"{what}: {method} {target}"[:150], is_right and not told.faults,
-                    told and (told.status, told.kind(), told.body, told.faults),
+                    told and (told.status, told.kind(), told.body, told.fields, told.faults),
                     (wanted.status, wanted.kind, wanted.body, wanted.fields))
         return told
 

@@ -13,6 +13,15 @@ from ..web_client import Speaker
 from .common import PROGRAM, Pair, entry_octets
 
 
+# What is no origin as browsers write it (RFC 6454 section 6.2).
+NO_ORIGINS = ["", "*", "null", "viewer.example", "//viewer.example", "ftp://viewer.example",
+              "https://", "https:///", "https://viewer.example/", "https://viewer.example/x",
+              "https://Viewer.example", "HTTPS://viewer.example", "https://viewer.example:",
+              "https://viewer.example:0", "https://viewer.example:65536",
+              "https://viewer.example:+1", "https://viewer.example:1:2", "https://:8443",
+              "https://a@viewer.example", "https://viewer example", "https://viewer.example "]
+
+
 def undated(response: Any) -> Any:
     """The octets of a response, without its Date."""
     return re.sub(rb"\r\nDate: [^\r]*", b"", response.head), response.body
@@ -121,6 +130,9 @@ def key_files(tally: Tally, folder: pathlib.Path) -> None:
             ("port 65536", 1, ["--web", 65536, *keyed]),
             ("an address without a port", 1, ["--web-listen", HOST]),
             ("a host without a port", 1, ["--web-host", "localhost"]),
+            ("an origin without a port", 1, ["--web-origin", "https://viewer.example"]),
+            *[(f"the origin {origin!r}", 1, ["--web", free_port(), *keyed, "--web-origin", origin])
+              for origin in NO_ORIGINS],
             ("a number of connections without a port", 1, ["--web-peer-connections", 1]),
             ("a number of connections that is none", 1,
              ["--web", free_port(), *keyed, "--web-peer-connections", "-1"]),

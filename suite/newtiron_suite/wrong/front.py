@@ -71,6 +71,13 @@ def web_takes_any_host() -> None:
         return right(self, method, target, {**fields, "host": "localhost", "origin": None}, *words)
 
 
+def web_shares_with_anybody() -> None:
+    """Each page that says an origin is the viewer's."""
+    @of_front("is_of_viewer")
+    def is_of_viewer(self: Any, _: Callable[..., Any], fields: Any) -> bool:
+        return "origin" in fields
+
+
 def web_takes_two_hosts() -> None:
     web_serving.SINGLE.discard("host")
 

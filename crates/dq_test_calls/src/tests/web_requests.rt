@@ -6,7 +6,7 @@ use dq_request::{Cause, Counted, Counts, Request, Response, Search, Subject};
 use dq_vr::tags;
 use dq_web::{
     Allowed, Counters, Cut, Framing, Guard, Keys, KeysFault, ParsedRequest, Question, Refusal,
-    Service, Wish, answered, ask, cut_off, judge, misspelled, refused,
+    Service, Wish, answered, ask, cut_off, judge, misspelled, permitted, refused,
 };
 use std::alloc::Global;
 use std::test::Fail;
@@ -36,6 +36,10 @@ const UNKNOWN: &[u8] = b"GET /NORTH/rs/studies?Patient=ROE&StudyInstanceUID=1.2,
 const FOREIGN: &[u8] = b"GET /SOUTH/rs/studies HTTP/1.1\r\n\
     host: localhost:8080\r\nAuthorization: Bearer abc\r\n\r\n";
 
+const PREFLIGHT: &[u8] = b"OPTIONS /NORTH/rs/studies HTTP/1.1\r\n\
+    Host: localhost\r\nOrigin: https://viewer.example\r\nSec-Fetch-Site: cross-site\r\n\
+    Access-Control-Request-Method: GET\r\n\r\n";
+
 const ENTRY: &[u8] = b"POST /NORTH/worklist HTTP/1.1\r\nHost: 127.0.0.1\r\n\
     Authorization: Bearer abc\r\nConnection: close\r\nContent-Length: 2\r\n\r\n\x08\x00";
 
@@ -43,6 +47,7 @@ fn guard_of(alloc: Global) -> Result<Guard, Fail> {
     Ok(Guard {
         keys: Keys::read(alloc, KEYS)?,
         host: None,
+        viewer: Some(Listed::copy_of(alloc, b"https://viewer.example")?),
     })
 }
 
@@ -51,6 +56,7 @@ fn framing_of(is_last: bool, is_head: bool) -> Framing {
         is_last,
         is_head,
         date: None,
+        viewer: None,
     }
 }
 
@@ -204,9 +210,31 @@ fn searches_are_refused(rt: HostRuntime) -> Result<(), Fail> {
         return Err("no word")?;
     };
     assert_eq!(rt; word.as_str(), "limit=ROE");
-    let refused = misspelled(rt.alloc(), "a\"b", framing_of(false, false))?.octets;
+    let refused = misspelled(rt.alloc(), "a\"b", &framing_of(false, false))?.octets;
     assert!(rt; refused.starts_with(b"HTTP/1.1 400 Bad Request\r\n"));
     assert!(rt; refused.ends_with(b"\r\n\r\n{\"refused\":\"keyword a\\\"b\"}"));
+    Ok(())
+}
+
+#[test]
+fn leave_is_given_to_the_viewer(rt: HostRuntime) -> Result<(), Fail> {
+    let alloc = rt.alloc();
+    let guard = guard_of(alloc)?;
+    let Cut::Whole(request) = cut_off(PREFLIGHT) else {
+        return Err("no request")?;
+    };
+    let asked = ask(alloc, &guard, &request)?;
+    assert!(rt; matches!(asked, ParsedRequest::Preflight));
+    let mut framing = framing_of(false, false);
+    framing.viewer = guard.viewer_of(alloc, &request.head.fields)?;
+    let leave = permitted(alloc, &framing)?.octets;
+    assert!(rt; leave.starts_with(b"HTTP/1.1 204 No Content\r\n"));
+    assert!(rt;
+        leave.ends_with(
+            b"\r\nAccess-Control-Allow-Origin: https://viewer.example\r\n\
+        Access-Control-Expose-Headers: Warning\r\nVary: Origin\r\n\r\n"
+        )
+    );
     Ok(())
 }
 
@@ -284,7 +312,7 @@ fn metrics_are_sent(rt: HostRuntime) -> Result<(), Fail> {
     let refused = refused(
         rt.alloc(),
         Refusal::Method(Allowed::GetAndPost),
-        framing_of(true, false),
+        &framing_of(true, false),
     )?
     .octets;
     assert!(rt; refused.starts_with(b"HTTP/1.1 405 Method Not Allowed\r\n"));
