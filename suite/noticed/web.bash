@@ -28,6 +28,8 @@ notices 'two hosts' 'a head with two Hosts' "$front" "$(server web-takes-two-hos
 notices 'a front that waits for one' 'slow' "$front" "$(server web-waits-for-one)" slow
 notices 'a front that closes one connection of seven' '100 at once' "$front" "$(server web-closes-each:7)" many
 notices 'rejections that are not counted' 'associations rejected' "$front" "$(server web-counts-no:rejected)" metrics
+notices 'refusals that are not counted' 'requests by kind and status' "$front" "$(server web-counts-no-requests:401)" metrics
+notices 'turns that are not counted' 'turns that serve the web front' "$front" "$(server web-counts-no-turns)" metrics
 notices 'a backup of nothing' 'backup' "$front" "$(server web-copies-nothing)" backup
 notices 'a log without the web front' log "$front" "$(unheard --log-file 2)" log
 if command -v chromium > "$work/nothing"; then

@@ -375,11 +375,14 @@ impl<H: Host> Network for H {
         most: Duration,
     ) -> io::Result<()> {
         front.attend(wires, self.runtime());
+        wires.mark_served(console.is_busy());
         let is_busy = console.is_busy() || front.is_busy();
         let most = if is_busy { Duration::ZERO } else { most };
         console.begin_turn();
         front.begin_turn();
+        wires.end_turn(self.runtime());
         let rested = wires.logged.wires.rest_beside(self.runtime(), most);
+        wires.begin_turn(self.runtime());
         wires.logged.read_clock(self.runtime());
         let is_called = rested?;
         console.look(self.runtime(), is_called)?;

@@ -39,13 +39,14 @@ pub struct HttpSockets {
     pub front: Option<HttpServer<SocketWires>>,
 }
 
-/// Counts of what was served, the numbers of the connections with an association, and when the turn
-/// began.
+/// Counts of what was served, the numbers of the connections with an association, when the turn
+/// began, and whether something was served in it.
 #[derive(Drop)]
 pub struct Counted {
     pub counters: Counters,
     open: Vec<u64>,
     begun: Option<Instant>,
+    is_served: bool,
 }
 
 /// The octets of memory that the program has, as the system tells; 0 where it does not.
@@ -78,6 +79,7 @@ impl Counted {
             counters: Counters::default(),
             open: Vec::new(alloc),
             begun: None,
+            is_served: false,
         }
     }
 
@@ -112,20 +114,32 @@ impl Counted {
         }
     }
 
-    // Counts what a turn served, and how long it took where it served something.
-    fn count_turn(&mut self, notes: &Notes, clock: &HostRuntime) {
+    // Counts what associations were served. The first turn begins with this.
+    fn count_all(&mut self, notes: &Notes, clock: &HostRuntime) {
+        if self.begun.is_none() {
+            self.begin_turn(clock);
+        }
         for note in notes.list.as_slice() {
             self.count(note);
+            self.is_served = true;
         }
-        let now = Instant::now(clock).ok();
-        match (self.begun.take(), now) {
-            (Some(begun), Some(now)) if !notes.list.is_empty() => {
-                let passed = now.duration_since(begun).as_micros();
-                self.counters
-                    .turn(u64::try_from(passed).unwrap_or(u64::MAX));
-            }
-            (Some(_), _) => {}
-            (None, now) => self.begun = now,
+    }
+
+    // A turn begins.
+    fn begin_turn(&mut self, clock: &HostRuntime) {
+        self.begun = Instant::now(clock).ok();
+        self.is_served = false;
+    }
+
+    // A turn ends. How long it took is counted where something was served in it.
+    fn end_turn(&mut self, clock: &HostRuntime) {
+        if !self.is_served {
+            return;
+        }
+        if let (Some(begun), Ok(now)) = (self.begun, Instant::now(clock)) {
+            let passed = now.duration_since(begun).as_micros();
+            self.counters
+                .turn(u64::try_from(passed).unwrap_or(u64::MAX));
         }
     }
 }
@@ -140,10 +154,31 @@ impl AssociationSockets {
         }
         let notes = turner.take_notes();
         if let Some(counted) = &mut self.counted {
-            counted.count_turn(&notes, clock);
+            counted.count_all(&notes, clock);
         }
         if let Some(log) = &mut self.logged.log {
             log.tell(&notes, clock);
+        }
+    }
+
+    /// Has this turn counted, if the console or the web front served something in it.
+    pub fn mark_served(&mut self, is_served: bool) {
+        if let Some(counted) = &mut self.counted {
+            counted.is_served = counted.is_served || is_served;
+        }
+    }
+
+    /// Begins a turn, after a rest.
+    pub fn begin_turn(&mut self, clock: &HostRuntime) {
+        if let Some(counted) = &mut self.counted {
+            counted.begin_turn(clock);
+        }
+    }
+
+    /// Ends a turn, before a rest.
+    pub fn end_turn(&mut self, clock: &HostRuntime) {
+        if let Some(counted) = &mut self.counted {
+            counted.end_turn(clock);
         }
     }
 }
@@ -264,6 +299,7 @@ impl HttpSockets {
             }
         }
         let notes = front.take_notes();
+        beside.mark_served(!notes.is_empty());
         if let Some(log) = &mut beside.logged.log {
             log.note_web(notes.as_str());
         }

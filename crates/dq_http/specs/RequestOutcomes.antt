@@ -11,10 +11,11 @@ use Rattle.dq_web.specs.declared.guard.Guard.{Guard}
 use Rattle.dq_web.specs.declared.refusal.Refusal.{Refusal}
 use Rattle.dq_web.specs.declared.refusal.Refusal.TheVariants as refusal
 use Rattle.dq_web.specs.declared.replies.Framing.{Framing}
+use Rattle.dq_web.specs.declared.resource.ResourceKind.TheVariants as kind
 use Rattle.dq_web.specs.declared.replies.Written.{Written}
 use Rattle.dq_web.specs.Answers.{IsWritten, refusal_reply, misspelled_reply, document_reply, preflight_reply, health_reply}
 use Rattle.dq_web.specs.Guards.{viewer_of}
-use Rattle.dq_web.specs.ParsedRequests.{IsAsked, IsQuestion, IsJudged}
+use Rattle.dq_web.specs.ParsedRequests.{IsAsked, IsQuestion, IsJudged, IsKindAt}
 use Rattle.dq_web.specs.Requests.{IsCutOff, IsRequest, is_expecting, is_of_head}
 use Rattle.dq_http.specs.declared.http_state.Answer.{Answer}
 use Rattle.dq_http.specs.declared.http_state.RequestOutcome.{RequestOutcome}
@@ -47,10 +48,12 @@ pub record IsFramed (guard : Guard) (head : Head) (is_last : Bool) (framing : Fr
   pub last : framing.is_last ≡ is_last
   pub content : framing.is_head ≡ is_of_head head
   pub viewer : framing.viewer ≡ viewer_of guard head.fields
+  pub kind : IsKindAt head framing.kind
 
 -- how one to octets is framed in which no head stands
 abbrev pub unread_framing : Option HttpDate → Framing
-unread_framing date = record { is_last = true; is_head = false; date = date; viewer = None }
+unread_framing date =
+    record { is_last = true; is_head = false; date = date; viewer = None; kind = kind.Nowhere }
 
 -- an answer is that of the request which stands at the front of the octets (RFC 9112)
 pub record IsAnswer (guard : Guard) (came : List ℕ) (answer : Answer) : Type 0 where

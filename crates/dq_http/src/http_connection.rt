@@ -135,6 +135,7 @@ impl HttpConnection {
             state.now.institutions.items) question.now.framing) }
     {
         let written = state.response_to(question, response)?;
+        notes.count(&written);
         notes.tell(self.peer, self.words.as_str(), self.begun, written.status)?;
         Ok(written)
     }
@@ -246,6 +247,7 @@ impl HttpConnection {
         self.begun = notes.now();
         match answer.given {
             Given::Response(written) => {
+                notes.count(&written);
                 notes.tell(self.peer, self.words.as_str(), self.begun, written.status)?;
                 self.put(written.octets);
             }
@@ -296,6 +298,7 @@ impl HttpConnection {
             RequestOutcome::GoOn => self.go_on(state.alloc, now)?,
             RequestOutcome::Refuse(words, written) => {
                 let begun = notes.now();
+                notes.count(&written);
                 notes.tell(self.peer, words.as_str(), begun, written.status)?;
                 self.is_fresh = false;
                 self.is_last = true;
@@ -352,6 +355,7 @@ impl HttpConnection {
     {
         let words = state.words_of_begun(self.came.as_slice())?;
         let written = state.too_late(notes.date())?;
+        notes.count(&written);
         notes.tell(self.peer, words.as_str(), self.since, written.status)?;
         self.is_fresh = false;
         self.is_last = true;

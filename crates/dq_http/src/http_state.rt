@@ -11,8 +11,9 @@ use dq_config::Institution;
 use dq_list::Listed;
 use dq_request::Response;
 use dq_web::{
-    Counters, Cut, Framing, Guard, Head, HttpRequest, ParsedRequest, Question, Refusal, Written,
-    answered, ask, cut_off, document, healthy, judge, misspelled, permitted, refused,
+    Counters, Cut, Framing, Guard, Head, HttpRequest, ParsedRequest, Question, Refusal,
+    ResourceKind, Written, answered, ask, cut_off, document, healthy, judge, kind_at, misspelled,
+    permitted, refused,
 };
 use httpdate::HttpDate;
 use std::alloc::{AllocError, Global};
@@ -67,6 +68,7 @@ fn unread_framing(date: Option<HttpDate>) -> Framing
         is_head: false,
         date,
         viewer: None,
+        kind: ResourceKind::Nowhere,
     }
 }
 
@@ -149,6 +151,7 @@ impl HttpState {
             is_head: head.is_head(),
             date,
             viewer: self.guard.viewer_of(self.alloc, &head.fields)?,
+            kind: kind_at(head),
         })
     }
 

@@ -1,9 +1,10 @@
 //! The log's note of a request.
 ghost use Rattle.std.specs.Prelude.{◌≡◌, ◌++◌, ◌==◌, [], None, position, string_bytes, take, IfOk, OnOk};
 ghost use Rattle.std.specs.List.{list_all};
+ghost use Rattle.dq_web.specs.Counting.{with_request};
 ghost use Rattle.dq_http.specs.Notes.{told_octet, told_text, is_of_name, path_of, parts_of, words_text, peer_text, HasNote};
 
-use dq_web::{Head, Status};
+use dq_web::{Head, RequestCounts, Status, Written};
 use dq_wires::GivenUp;
 use httpdate::HttpDate;
 use std::alloc::{AllocError, Global};
@@ -117,12 +118,13 @@ fn peer_text(alloc: Global, peer: Option<SocketAddr>) -> Result<String, AllocErr
     }
 }
 
-/// A clock, and the notes of requests that were answered, a line each.
+/// A clock, the notes of requests that were answered, a line each, and how many there were.
 #[derive(Drop)]
 pub(crate) struct Notes {
     alloc: Global,
     clock: HostRuntime,
     lines: String,
+    requests: RequestCounts,
 }
 
 impl Notes {
@@ -134,6 +136,7 @@ impl Notes {
             alloc,
             clock: *rt,
             lines: String::new(alloc),
+            requests: RequestCounts::default(),
         }
     }
 
@@ -150,6 +153,22 @@ impl Notes {
         Instant::now(&self.clock).ok()
     }
 
+    /// Counts a response.
+    pub fn count(&mut self, written: &Written)
+        ensures { self.new ≡ record self.old {
+          requests = with_request written.now.kind written.now.status self.old.requests;
+        } }
+    {
+        self.requests.count(written.kind, written.status);
+    }
+
+    /// Returns how many requests were answered.
+    pub fn requests(&self) -> RequestCounts
+        ensures { result ≡ self.now.requests }
+    {
+        self.requests
+    }
+
     /// Adds a note of a peer's request that was whole at an instant, and of the status of its response.
     pub fn tell(
         &mut self,
@@ -158,8 +177,9 @@ impl Notes {
         begun: Option<Instant>,
         status: Status,
     ) -> Result<(), AllocError>
-        ensures { OnOk result (HasNote peer words.now status (string_bytes self.old.lines)
+        ensures line { OnOk result (HasNote peer words.now status (string_bytes self.old.lines)
             (string_bytes self.new.lines)) }
+        ensures requests { self.new.requests ≡ self.old.requests }
     {
         let milliseconds = match (begun, self.now()) {
             (Some(begun), Some(now)) => now.duration_since(begun).as_millis(),
@@ -187,6 +207,7 @@ impl Notes {
     pub fn take(&mut self) -> String
         ensures taken { result ≡ self.old.lines }
         ensures left { string_bytes self.new.lines ≡ [] }
+        ensures requests { self.new.requests ≡ self.old.requests }
     {
         mem::replace(&mut self.lines, String::new(self.alloc))
     }

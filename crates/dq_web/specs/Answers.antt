@@ -196,15 +196,14 @@ abbrev pub IsReplyTo : Question → Response → List Institution → Reply → 
 IsReplyTo question response institutions reply =
     IsReplyBy question.asked question.wish response institutions reply
 
--- a response of which this holds is written, as it is framed
-abbrev pub IsResponse : (Reply → Type 0) → Framing → Written → Type 0
-IsResponse Holds framing written = (reply : Reply) × Holds reply × (written.status ≡ reply.status)
+-- a response is written, as it is framed
+abbrev pub IsWritten : Reply → Framing → Written → Type 0
+IsWritten reply framing written = (written.status ≡ reply.status) × (written.kind ≡ framing.kind)
     × (written.octets.items ≡ response_text reply framing)
 
--- this response is
-abbrev pub IsWritten : Reply → Framing → Written → Type 0
-IsWritten reply framing written = (written.status ≡ reply.status)
-    × (written.octets.items ≡ response_text reply framing)
+-- one of which this holds is
+abbrev pub IsResponse : (Reply → Type 0) → Framing → Written → Type 0
+IsResponse Holds framing written = (reply : Reply) × Holds reply × IsWritten reply framing written
 
 -- the response to a request that the front refuses
 abbrev pub refusal_reply : Refusal → Reply

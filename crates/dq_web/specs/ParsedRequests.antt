@@ -22,6 +22,8 @@ use Rattle.dq_web.specs.declared.guard.Guard.{Guard}
 use Rattle.dq_web.specs.declared.guard.Openness.{Openness}
 use Rattle.dq_web.specs.declared.guard.Openness.TheVariants.{Closed, Tab, Viewer}
 use Rattle.dq_web.specs.declared.resource.Resource.{Resource}
+use Rattle.dq_web.specs.declared.resource.ResourceKind.{ResourceKind}
+use Rattle.dq_web.specs.declared.resource.ResourceKind.TheVariants as kind
 use Rattle.dq_web.specs.declared.resource.Resource.TheVariants.{Page, Style, Script, Health, Metrics, Backup, Counts, Studies, Series, Images, Unsearched, Worklist, Entry, Steps}
 use Rattle.dq_web.specs.declared.parsed_request.Aim.{Aim}
 use Rattle.dq_web.specs.declared.parsed_request.ParsedRequest.{ParsedRequest}
@@ -36,7 +38,7 @@ use Rattle.dq_web.specs.declared.parsed_request.Wanted.{Wanted}
 use Rattle.dq_web.specs.declared.parsed_request.Wanted.TheVariants as wanted
 use Rattle.dq_web.specs.declared.parsed_request.Wish.{Wish}
 use Rattle.dq_web.specs.Guards.{is_preflight, IsSameOrigin, IsAdmitted, IsOpened}
-use Rattle.dq_web.specs.Resources.{IsPath, beneath}
+use Rattle.dq_web.specs.Resources.{kind_of, IsPath, beneath}
 
 -- no space, no control and nothing past ASCII: 21H to 7EH
 abbrev pub is_visible : ℕ → Bool
@@ -352,6 +354,17 @@ IsAsked guard request (asked.Document document) =
     (aim : Aim) × IsLetIn guard request.head aim × (aim.resource ≡ document_resource document)
 IsAsked guard request asked.Health = (aim : Aim) × IsLetIn guard request.head aim × (aim.resource ≡ Health)
 IsAsked guard request asked.Preflight = (aim : Aim) × IsLetIn guard request.head aim × IsTrue (is_leave_asked aim.method)
+
+-- a resource is at the path of a head
+abbrev pub IsResourceAt : Head → Resource → Type 0
+IsResourceAt head resource = (host : List ℕ) × (text : List ℕ) × (path : List ℕ) × (query : List ℕ)
+    × IsTarget head.target.now (option_copied head.fields.host) host text × IsPathAndQuery text path query
+    × IsPath path resource
+
+-- the kind of one that is
+abbrev pub IsKindAt : Head → ResourceKind → Type 0
+IsKindAt head what = (what ≡ kind.Nowhere)
+    ⊎ ((resource : Resource) × IsResourceAt head resource × (what ≡ kind_of resource))
 
 -- ---- laws
 

@@ -16,13 +16,13 @@ mod resource;
 mod responses;
 mod status;
 
-pub use counters::{Class, Counters, Operations, Service, Turns};
+pub use counters::{Class, Counters, Operations, RequestCounts, Service, Turns};
 pub use cutting::{BODY_MOST, Cut, Fields, HEAD_MOST, Head, HttpRequest, cut_off};
 pub use guard::{Guard, Openness};
 pub use keys::{KeyEntry, Keys, KeysFault, OPERATOR};
-pub use parsed_request::{Aim, Document, Method, ParsedRequest, Question, Wish, ask, judge};
+pub use parsed_request::{Aim, Document, Method, ParsedRequest, Question, Wish, ask, judge, kind_at};
 pub use refusal::{Allowed, Refusal};
 pub use replies::{Framing, Written};
-pub use resource::{Resource, resource_of};
+pub use resource::{Resource, ResourceKind, resource_of};
 pub use responses::{answered, document, healthy, misspelled, permitted, refused};
 pub use status::Status;

@@ -4,14 +4,14 @@ ghost use Rattle.std.specs.List.{list_all, list_any, starts_with};
 ghost use Rattle.std.specs.Str.{bytes_eq};
 ghost use Rattle.percent_encoding.specs.Percent.{percent_decode};
 ghost use Rattle.dq_request.specs.Searches.{TakesWords, StopsAt, name_in};
-ghost use Rattle.dq_web.specs.ParsedRequests.{is_visible, is_printable, is_silent, is_attribute, is_unknown, is_left_out, parts_of, words_among, words_in, uid_key, hundred_of, series_of, images_of, IsSearchAt, is_searched, only_looks, openness_of, is_leave_asked, owner_of, IsPathAndQuery, IsTarget, IsMethodOf, IsLooked, IsBackup, Posting, Deleting, IsWanted, has_no_slash, is_plain_segment, is_plain_path, is_page, IsLetIn, IsJudged, is_fuzzy, wish_of, IsAsked};
+ghost use Rattle.dq_web.specs.ParsedRequests.{is_visible, is_printable, is_silent, is_attribute, is_unknown, is_left_out, parts_of, words_among, words_in, uid_key, hundred_of, series_of, images_of, IsSearchAt, is_searched, only_looks, openness_of, is_leave_asked, owner_of, IsPathAndQuery, IsTarget, IsMethodOf, IsLooked, IsBackup, Posting, Deleting, IsWanted, has_no_slash, is_plain_segment, is_plain_path, is_page, IsLetIn, IsJudged, is_fuzzy, wish_of, IsAsked, IsResourceAt, IsKindAt};
 
 use crate::cutting::{Fields, Head, HttpRequest};
 use crate::guard::{Guard, Openness};
 use crate::keys::OPERATOR;
 use crate::refusal::{Allowed, Refusal};
 use crate::replies::Framing;
-use crate::resource::{Resource, at_slash, behind, resource_of};
+use crate::resource::{Resource, ResourceKind, at_slash, behind, kind_of, resource_of};
 use dq_json::tag_named;
 use dq_list::Listed;
 use dq_request::{Request, Search, Subject};
@@ -675,6 +675,7 @@ fn question_of(asked: Request, wish: Wish) -> Question
             is_head: false,
             date: None,
             viewer: None,
+            kind: ResourceKind::Nowhere,
         },
     }
 }
@@ -723,6 +724,25 @@ pub fn ask(
         Ok(asked) => Ok(asked),
         Err(Unasked::Refused(refusal)) => Ok(ParsedRequest::Refused(refusal)),
         Err(Unasked::NoMemory) => Err(AllocError),
+    }
+}
+
+/// The resource at the path of a head.
+fn resource_at<'a>(head: &Head<'a>) -> Result<Resource<'a>, Refusal>
+    ensures { IfOk result (IsResourceAt head.now) }
+{
+    let (_, text) = host_and_path(target_text(head.target)?, head.fields.host)?;
+    let (path, _) = path_and_query(text);
+    Ok(resource_of(path))
+}
+
+/// Returns the kind of the resource at the path of a head.
+pub fn kind_at(head: &Head<'_>) -> ResourceKind
+    ensures { IsKindAt head.now result }
+{
+    match resource_at(head) {
+        Ok(resource) => kind_of(resource),
+        Err(_) => ResourceKind::Nowhere,
     }
 }
 

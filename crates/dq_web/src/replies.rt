@@ -5,6 +5,7 @@ ghost use Rattle.dq_web.specs.Responses.{content_type, extra_fields, has_content
 ghost use Rattle.dq_web.specs.Answers.{IsWritten};
 
 use crate::refusal::Allowed;
+use crate::resource::ResourceKind;
 use crate::status::Status;
 use dq_list::Listed;
 use httpdate::HttpDate;
@@ -36,10 +37,11 @@ pub struct Reply {
     pub is_full: bool,
 }
 
-/// A response as octets, and its status.
+/// A response as octets, its status, and the kind of the resource that was asked for.
 #[derive(Drop)]
 pub struct Written {
     pub status: Status,
+    pub kind: ResourceKind,
     pub octets: Vec<u8>,
 }
 
@@ -54,6 +56,8 @@ pub struct Framing {
     pub date: Option<HttpDate>,
     /// The origin of another site whose pages may read it.
     pub viewer: Option<Listed<u8>>,
+    /// The kind of the resource that was asked for.
+    pub kind: ResourceKind,
 }
 
 impl Framing {
@@ -302,6 +306,7 @@ pub(crate) fn printed(
     octets.extend_from_slice(content(framing.is_head, reply.body.as_slice()))?;
     Ok(Written {
         status: reply.status,
+        kind: framing.kind,
         octets,
     })
 }

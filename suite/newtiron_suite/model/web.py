@@ -205,6 +205,18 @@ def place_of(path: str) -> Any:
     return (name, match.groups(), methods) if match and name != "*" else ("", (), {})
 
 
+def kind_of(target: str) -> str:
+    """The kind of the resource at a target, by which requests are counted."""
+    path = host_and_path(target, None)[1].partition("?")[0]
+    if path in OPEN or path in OPERATORS:
+        return "page" if path.startswith("/page") or path == "/" else path[1:]
+    below = path.partition("/")[2].partition("/")
+    match = next((methods for pattern, methods in PATHS if below[0] != "*" and below[1]
+                  and re.fullmatch(pattern, below[2], re.S)), {})
+    kind = next(iter(match.values()), "none")
+    return {"images": "instances", "withdraw": "worklist", "relational": "none"}.get(kind, kind)
+
+
 def ranges_in(fields: Any) -> Any:
     """The media types and their ranges that an Accept names."""
     return {word.lower() for word in re.split(r"[,; \t]",

@@ -48,6 +48,7 @@ HELP = {"rows": "Rows that are kept.", "rows_limit": "Rows that may be kept.",
         "associations_open": "Associations that are open.",
         "associations_total": "Associations since the start.",
         "operations_total": "Messages that were answered.",
+        "http_requests_total": "Requests that were answered.",
         "turn_seconds": "Turns of all connections.", "memory_bytes": "Memory of the server."}
 
 Request = collections.namedtuple("Request",
@@ -174,6 +175,7 @@ class Counters:
     def __init__(self) -> None:
         self.outcomes, self.operations, self.turns = (collections.Counter(), collections.Counter(),
                                                       [])
+        self.requests: collections.Counter[tuple[str, int]] = collections.Counter()
 
     def count_sent(self, octets: bytes) -> None:
         """Counts what an association is sent first, or at its end."""
@@ -236,6 +238,7 @@ class WebService:
         try:
             request = cut_off(caller.octets) if caller.octets.strip(b"\r\n") else None
         except Refused as refused:
+            self.counters.requests["none", refused.args[0]] += 1
             caller.unsent, caller.octets, caller.is_over = spelled("", web.refused(*refused.args),
                                                                    True), b"", True
             return True
@@ -244,6 +247,7 @@ class WebService:
         if request.body is None:
             why = self.front.judged(request.method, request.target, request.fields, request.is_old)
             if why:
+                self.counters.requests[web.kind_of(request.target), why.status] += 1
                 caller.unsent, caller.octets, caller.is_over = spelled(request.method, why,
                                                                        True), b"", True
                 return True
@@ -254,7 +258,9 @@ class WebService:
         caller.octets, caller.was_told = caller.octets[request.extent:], False
         if request.is_last:
             caller.octets, caller.is_over = b"", True
-        caller.unsent = spelled(request.method, self.answer(request), request.is_last)
+        answer = self.answer(request)
+        self.counters.requests[web.kind_of(request.target), answer.status] += 1
+        caller.unsent = spelled(request.method, answer, request.is_last)
         return True
 
     def answer(self, request: Request) -> web.Answer:
@@ -311,6 +317,9 @@ class WebService:
                   for (field, name),
                   count in sorted(self.keeping.server.served.items()) if field in SERVICES]
         yield from sampled("operations_total", "counter", served)
+        asked = [(f'{{kind="{kind}",status="{status}"}}', count)
+                 for (kind, status), count in sorted(self.counters.requests.items())]
+        yield from sampled("http_requests_total", "counter", asked)
         turns = self.counters.turns
         buckets = [(f'_bucket{{le="{bound}"}}', sum(one <= bound for one in turns))
                    for bound in BOUNDS]

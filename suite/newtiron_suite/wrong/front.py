@@ -141,6 +141,22 @@ def web_counts_no(outcome: str) -> None:
         del self.outcomes[outcome]
 
 
+def web_counts_no_requests(status: str) -> None:
+    """Requests that were answered with this status are not counted."""
+    @of_front("metrics", web_serving.WebService)
+    def metrics(self: Any, right: Callable[..., Any]) -> Any:
+        for key in [key for key in self.counters.requests if key[1] == int(status)]:
+            del self.counters.requests[key]
+        return right(self)
+
+
+def web_counts_no_turns() -> None:
+    @of_front("metrics", web_serving.WebService)
+    def metrics(self: Any, right: Callable[..., Any]) -> Any:
+        self.counters.turns = self.counters.turns[:1]
+        return right(self)
+
+
 def web_copies_nothing() -> None:
     """A backup is an empty file."""
     @of_front("copied", web_serving.WebService)

@@ -6,7 +6,7 @@ use dq_request::{Cause, Counted, Counts, Request, Response, Search, Subject};
 use dq_vr::tags;
 use dq_web::{
     Allowed, Counters, Cut, Framing, Guard, Keys, KeysFault, ParsedRequest, Question, Refusal,
-    Service, Wish, answered, ask, cut_off, judge, misspelled, permitted, refused,
+    ResourceKind, Service, Status, Wish, answered, ask, cut_off, judge, misspelled, permitted, refused,
 };
 use std::alloc::Global;
 use std::test::Fail;
@@ -57,6 +57,7 @@ fn framing_of(is_last: bool, is_head: bool) -> Framing {
         is_head,
         date: None,
         viewer: None,
+        kind: ResourceKind::Studies,
     }
 }
 
@@ -100,6 +101,9 @@ fn sent(
     counters.accept();
     counters.serve(Service::Find, 0xa900);
     counters.turn(2_500_000);
+    counters.requests.count(ResourceKind::Worklist, Status::Created);
+    counters.requests.count(ResourceKind::Nowhere, Status::Full);
+    counters.requests.count(ResourceKind::Nowhere, Status::Full);
     Ok(answered(alloc, &question, &response, &[], &counters)?.octets)
 }
 
@@ -305,6 +309,12 @@ fn metrics_are_sent(rt: HostRuntime) -> Result<(), Fail> {
     assert!(rt; text.contains("\nnewtiron_associations_total{outcome=\"accepted\"} 1\n"));
     assert!(rt;
         text.contains("\nnewtiron_operations_total{service=\"find\",status=\"refused\"} 1\n")
+    );
+    assert!(rt;
+        text.contains("\nnewtiron_http_requests_total{kind=\"worklist\",status=\"201\"} 1\n")
+    );
+    assert!(rt;
+        text.contains("\nnewtiron_http_requests_total{kind=\"none\",status=\"507\"} 2\n")
     );
     assert!(rt; text.contains("\nnewtiron_turn_seconds_bucket{le=\"1\"} 0\n"));
     assert!(rt; text.contains("\nnewtiron_turn_seconds_bucket{le=\"+Inf\"} 1\n"));
