@@ -3,6 +3,8 @@ use Rattle.std.specs.Prelude.{◌≡◌, ◌⊎◌, ◌≤◌, ◌^◌, ◌-◌,
 use Rattle.std.specs.Duration.{as_nanos}
 use Rattle.std.specs.List.{flat_map}
 use Rattle.std.specs.Io.KnownBytes.{Keeps, Appends}
+use Rattle.std.specs.Net.Grammar.{IsIpText}
+use Rattle.std.specs.declared.net.ip_addr.IpAddr.{IpAddr}
 use Rattle.dq_config.specs.declared.config.Institution.{Institution}
 use Rattle.dq_core.specs.declared.fault.Fault.TheVariants as fault
 use Rattle.dq_core.specs.Faults.{server_fault_number as fault_number}
@@ -39,6 +41,12 @@ turn_count (Some turns) = turns
 -- a count, where it is limited: 0 is no limit
 abbrev pub limit_of : ℕ → Option ℕ
 limit_of count = if nat_lt 0 count then Some count else None
+
+-- the address of a proxy, if a text names one
+abbrev pub IsProxyNamed : Option (List ℕ) → Option IpAddr → Type 0
+IsProxyNamed None address = address ≡ None
+IsProxyNamed (Some text) None = ⊥
+IsProxyNamed (Some text) (Some address) = IsIpText text address
 
 -- so many seconds, in nanoseconds
 abbrev pub nanoseconds : ℕ → ℕ

@@ -4,7 +4,7 @@ ghost use Rattle.std.specs.Option.{option_copied};
 ghost use Rattle.dq_cli.specs.CommandLine.{WebFront, web_front_in};
 ghost use Rattle.dq_web.specs.KeyFiles.{AreSpelled};
 ghost use Rattle.dq_wires.specs.declared.given_up.Limits.{Limits};
-ghost use Rattle.dq_app.specs.Serving.{limit_of};
+ghost use Rattle.dq_app.specs.Serving.{limit_of, IsProxyNamed};
 
 use crate::server_sockets::{AssociationSockets, ConsoleSockets, Counted, HttpSockets};
 use dq_captures::{Folder, Host, Unread};
@@ -218,13 +218,12 @@ pub(crate) fn connections_of(count: u32) -> Option<usize>
     Some(count as usize)
 }
 
-// Has those who say nothing for so many seconds let go, and at once those of whose address there are
-// as many as may be.
-fn limit_clients(wires: &mut SocketWires, quiet: u64, peer_connections: Option<usize>) {
+// Has those who say nothing for so many seconds let go.
+fn limit_clients(wires: &mut SocketWires, quiet: u64) {
     wires.set_limits(Limits {
         artim: None,
         quiet: Some(Duration::from_secs(quiet)),
-        peer_connections,
+        peer_connections: None,
     });
 }
 
@@ -232,7 +231,7 @@ fn limit_clients(wires: &mut SocketWires, quiet: u64, peer_connections: Option<u
 fn console_at(alloc: Global, rt: &HostRuntime, path: &str) -> Result<SocketWires, ListenError> {
     match SocketWires::listen_at(alloc, rt, path) {
         Ok(mut wires) => {
-            limit_clients(&mut wires, CONSOLE_QUIET, None);
+            limit_clients(&mut wires, CONSOLE_QUIET);
             Ok(wires)
         }
         Err(error) => Err(listen_error_of(&error)),
@@ -268,17 +267,37 @@ fn octets_of(alloc: Global, text: Option<&str>) -> Result<Option<Listed<u8>>, Al
     }
 }
 
+/// The address of the proxy before a web front, if one is named.
+fn proxy_of(web: Web<'_>) -> Result<Option<IpAddr>, ListenError>
+    ensures { IfOk result (IsProxyNamed (option_copied web.entry.proxy)) }
+{
+    let Some(text) = web.proxy else {
+        return Ok(None);
+    };
+    match text.parse::<IpAddr>() {
+        Ok(address) => Ok(Some(address)),
+        Err(_) => Err(ListenError::Failed),
+    }
+}
+
 /// The guard of a web front: the keys of its file, its host, and the origin of its viewer.
 fn guard_of<F: Folder>(alloc: Global, folder: &F, web: Web<'_>) -> Result<Guard, ListenError>
     ensures keys { IfOk result (λ guard. IfSome (F.held folder.now web.entry.keys.now) (λ octets.
         AreSpelled octets guard.keys.entries)) }
     ensures host { IfOk result (λ guard. guard.host ≡ option_copied web.entry.host) }
     ensures viewer { IfOk result (λ guard. guard.viewer ≡ option_copied web.entry.origin) }
+    ensures proxy { IfOk result (λ guard. IsProxyNamed (option_copied web.entry.proxy) guard.proxy) }
 {
     let keys = keys_of(alloc, folder, web.keys)?;
     let host = octets_of(alloc, web.host)?;
     let viewer = octets_of(alloc, web.origin)?;
-    Ok(Guard { keys, host, viewer })
+    let proxy = proxy_of(web)?;
+    Ok(Guard {
+        keys,
+        host,
+        viewer,
+        proxy,
+    })
 }
 
 // The web front of institutions.
@@ -295,8 +314,8 @@ fn front_at<H: Host>(
     };
     let mut wires = sockets_at(alloc, rt, address, web.port)?;
     let peers = connections_of(web.peer_connections);
-    limit_clients(&mut wires, WEB_QUIET, peers);
-    Ok(HttpServer::new(rt, wires, state)?)
+    limit_clients(&mut wires, WEB_QUIET);
+    Ok(HttpServer::new(rt, wires, state, peers)?)
 }
 
 // Has a rest over sockets end where something may be done on others.

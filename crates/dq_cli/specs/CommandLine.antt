@@ -44,13 +44,14 @@ pub record Request : Type 0 where
   pub place : RowsPlace
 
 -- Where requests of the web front come in: a port of an address; the host that a proxy before it is
--- called by, and the origin of a viewer whose pages may read, if they are named; the file of its keys; and how many
--- connections may come of one address, 0 any number.
+-- called by, the origin of a viewer whose pages may read, and the address of that proxy, if they are named; the file
+-- of its keys; and how many connections may come of one address, 0 any number.
 pub record WebFront : Type 0 where
   pub port : ℕ
   pub address : List ℕ
   pub host : Option (List ℕ)
   pub origin : Option (List ℕ)
+  pub proxy : Option (List ℕ)
   pub keys : List ℕ
   pub peer_connections : ℕ
 
@@ -213,27 +214,30 @@ origin_named subcommand = told_if_given origin_told (value_in (codes "web-origin
 -- The web front that the options name: its port and its keys, or neither, and then no more of it. None
 -- where they go not together, or the port is none.
 abbrev pub web_by_options : Option (List ℕ) → Option (List ℕ) → Option (List ℕ) → Option (List ℕ)
-    → Option (List ℕ) → Option ℕ → Option (Option WebFront)
-web_by_options (Some port) (Some keys) address host origin peers = option_map (λ number. Some (record {
+    → Option (List ℕ) → Option (List ℕ) → Option ℕ → Option (Option WebFront)
+web_by_options (Some port) (Some keys) address host origin proxy peers = option_map (λ number. Some (record {
   port = number;
   address = unwrap_or address loopback_address;
   host = host;
   origin = origin;
+  proxy = proxy;
   keys = keys;
   peer_connections = unwrap_or peers web_peer_limit;
 })) (port_told port)
-web_by_options (Some port) None address host origin peers = None
-web_by_options None (Some keys) address host origin peers = None
-web_by_options None None None None None None = Some None
-web_by_options None None (Some address) host origin peers = None
-web_by_options None None None (Some host) origin peers = None
-web_by_options None None None None (Some origin) peers = None
-web_by_options None None None None None (Some peers) = None
+web_by_options (Some port) None address host origin proxy peers = None
+web_by_options None (Some keys) address host origin proxy peers = None
+web_by_options None None None None None None None = Some None
+web_by_options None None (Some address) host origin proxy peers = None
+web_by_options None None None (Some host) origin proxy peers = None
+web_by_options None None None None (Some origin) proxy peers = None
+web_by_options None None None None None (Some proxy) peers = None
+web_by_options None None None None None None (Some peers) = None
 
 abbrev pub web_named : Option (Text × List Row) → Option (Option WebFront)
 web_named subcommand = option_and_then (λ origin. option_and_then
     (web_by_options (value_in (codes "web") subcommand) (value_in (codes "web-keys") subcommand)
-    (value_in (codes "web-listen") subcommand) (value_in (codes "web-host") subcommand) origin)
+    (value_in (codes "web-listen") subcommand) (value_in (codes "web-host") subcommand) origin
+    (value_in (codes "web-proxy") subcommand))
     (told_if_given number_told (value_in (codes "web-peer-connections") subcommand)))
     (origin_named subcommand)
 
@@ -356,6 +360,7 @@ web_front_in web = record {
   address = web.address.now;
   host = option_copied web.host;
   origin = option_copied web.origin;
+  proxy = option_copied web.proxy;
   keys = web.keys.now;
   peer_connections = web.peer_connections;
 }

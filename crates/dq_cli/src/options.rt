@@ -297,6 +297,7 @@ fn web_in<'a>(matches: &ArgMatches<'a>) -> Result<Option<Web<'a>>, Misuse>
     let address = value_in(matches, "web-listen");
     let host = value_in(matches, "web-host");
     let origin = origin_in(matches)?;
+    let proxy = value_in(matches, "web-proxy");
     let peers = number_in(matches, "web-peer-connections", Misuse::NoWebPeers)?;
     match (value_in(matches, "web"), value_in(matches, "web-keys")) {
         (Some(text), Some(keys)) => match port_told(text) {
@@ -305,13 +306,14 @@ fn web_in<'a>(matches: &ArgMatches<'a>) -> Result<Option<Web<'a>>, Misuse>
                 address: address.unwrap_or(LOOPBACK_ADDRESS),
                 host,
                 origin,
+                proxy,
                 keys,
                 peer_connections: peers.unwrap_or(WEB_PEERS),
             })),
             None => Err(Misuse::NoWeb),
         },
-        (None, None) => match (address, host, origin, peers) {
-            (None, None, None, None) => Ok(None),
+        (None, None) => match (address, host, origin, proxy, peers) {
+            (None, None, None, None, None) => Ok(None),
             _ => Err(Misuse::NoWeb),
         },
         _ => Err(Misuse::NoWeb),

@@ -1,15 +1,17 @@
--- The log's note of a request: the address that it came from, its method, its institution, the path below that without
+-- The log's note of a request: the address that it came from, that from which a proxy says it came, its method, its institution, the path below that without
 -- its query, and the status of its response.
 use Rattle.std.specs.Prelude.{◌≡◌, ◌==◌, ℕ, ◌++◌, Bool, ◌||◌, ◌&&◌, if◌then◌else◌, List, [], ◌∷◌, take, drop, map, position, codes, Option, Some, None}
 use Rattle.std.specs.Char.{is_ascii_graphic, is_ascii_uppercase, is_ascii_digit}
 use Rattle.std.specs.Fmt.{decimal}
 use Rattle.std.specs.List.{list_all}
-use Rattle.std.specs.Net.Text.{socket_text}
+use Rattle.std.specs.Net.Text.{ip_text, socket_text}
+use Rattle.std.specs.declared.net.ip_addr.IpAddr.{IpAddr}
 use Rattle.std.specs.declared.net.socket_addr.SocketAddr.{SocketAddr}
 use Rattle.dq_list.specs.Lengths.{is_empty}
 use Rattle.dq_web.specs.declared.cutting.Head.{Head}
 use Rattle.dq_web.specs.declared.status.Status.{Status}
 use Rattle.dq_web.specs.Responses.{status_code}
+use Rattle.dq_http.specs.declared.request_log.Sender.{Sender}
 
 -- an octet that is no graphic character of ASCII is told as a question mark: no request can write lines of the log
 abbrev pub told_octet : ℕ → ℕ
@@ -50,7 +52,15 @@ abbrev pub peer_text : Option SocketAddr → List ℕ
 peer_text None = codes "-"
 peer_text (Some peer) = socket_text peer
 
+-- that of a sender, and the address from which its peer says that the request came
+abbrev pub forwarded_text : Option IpAddr → List ℕ
+forwarded_text None = []
+forwarded_text (Some address) = codes " for " ++ ip_text address
+
+abbrev pub sender_text : Sender → List ℕ
+sender_text sender = peer_text sender.address ++ forwarded_text sender.forwarded
+
 -- One line more, with the status code of the response (RFC 9110 section 15), and how long it took.
-abbrev pub HasNote : Option SocketAddr → List ℕ → Status → List ℕ → List ℕ → Type 0
+abbrev pub HasNote : Sender → List ℕ → Status → List ℕ → List ℕ → Type 0
 HasNote peer words status old new = (milliseconds : ℕ)
-    × (new ≡ old ++ (peer_text peer ++ (codes " " ++ (words ++ (codes " " ++ (decimal (status_code status) ++ (codes " ms " ++ (decimal milliseconds ++ codes "\n"))))))))
+    × (new ≡ old ++ (sender_text peer ++ (codes " " ++ (words ++ (codes " " ++ (decimal (status_code status) ++ (codes " ms " ++ (decimal milliseconds ++ codes "\n"))))))))

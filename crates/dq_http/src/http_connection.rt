@@ -2,16 +2,16 @@
 ghost use Rattle.std.specs.Prelude.{◌≡◌, option_copied, IfOk, OnOk};
 ghost use Rattle.std.specs.Bool.{OnTrue};
 ghost use Rattle.dq_web.specs.Answers.{IsReplyTo, IsResponse};
-ghost use Rattle.dq_http.specs.HttpConnections.{IsNew, IsOver, IsRest, WritesRest, IsSent, IsRead, IsTakenOff, with_response, AnswersAt, seen, awaiting_body, begun_wait, is_late, IsRefusedLate, TakesAnswer, Takes, TakesUp, TakesOrRefuses, Moves, Turns, is_waiting, is_busy, asked_in, asks_report};
+ghost use Rattle.dq_http.specs.HttpConnections.{IsNew, IsOver, IsRest, WritesRest, IsSent, IsRead, IsTakenOff, with_response, AnswersAt, seen, awaiting_body, begun_wait, is_late, IsSender, IsRefusedLate, TakesAnswer, Takes, TakesUp, TakesOrRefuses, Moves, Turns, is_waiting, is_busy, asked_in, asks_report};
 
 use crate::http_state::{Answer, Given, HttpState, RequestOutcome};
-use crate::request_log::Notes;
+use crate::request_log::{Notes, Sender};
 use dq_list::Listed;
 use dq_request::{Request, Response};
 use dq_web::{Question, Written};
 use dq_wires::{ReadTurn, WireFault, Wires};
 use std::alloc::{AllocError, Global};
-use std::net::SocketAddr;
+use std::net::{IpAddr, SocketAddr};
 use std::time::Instant;
 
 /// The seconds in which the head of a request has to come, from the first octet of it, and of the first
@@ -38,12 +38,12 @@ pub(crate) enum Stage {
     Over,
 }
 
-/// A connection: its place among the wires, its peer's address if that is known, what came and is not
+/// A connection: its place among the wires, the sender of its request, what came and is not
 /// taken, what becomes of its request, and whether nothing comes after the response.
 #[derive(Drop)]
 pub(crate) struct HttpConnection {
     pub place: usize,
-    pub peer: Option<SocketAddr>,
+    pub peer: Sender,
     pub came: Vec<u8>,
     pub stage: Stage,
     pub is_last: bool,
@@ -68,7 +68,10 @@ impl HttpConnection {
     {
         HttpConnection {
             place,
-            peer,
+            peer: Sender {
+                address: peer,
+                forwarded: None,
+            },
             came: Vec::new(alloc),
             stage: Stage::Reading,
             is_last: false,
@@ -78,6 +81,14 @@ impl HttpConnection {
             since: now,
             words: String::new(alloc),
             begun: None,
+        }
+    }
+
+    /// Whether its peer has an address.
+    pub fn is_of(&self, address: IpAddr) -> bool {
+        match self.peer.address {
+            Some(peer) => peer.ip() == address,
+            None => false,
         }
     }
 
@@ -280,6 +291,13 @@ impl HttpConnection {
         Ok(())
     }
 
+    // Reads from where its request came, as a proxy says it.
+    fn read_sender(&mut self, state: &HttpState)
+        ensures { IsSender state.now.guard.proxy self.old self.new }
+    {
+        self.peer.forwarded = state.forwarded(self.peer.address, self.came.as_slice());
+    }
+
     // Takes up what came, where a request is read and there is something new.
     fn take_up(
         &mut self,
@@ -292,6 +310,7 @@ impl HttpConnection {
         if !self.is_fresh || !matches!(self.stage, Stage::Reading) {
             return Ok(());
         }
+        self.read_sender(state);
         match state.outcome_for(self.came.as_slice(), notes.date())? {
             RequestOutcome::AwaitHead => self.is_fresh = false,
             RequestOutcome::AwaitBody => self.await_body(now),
@@ -351,8 +370,9 @@ impl HttpConnection {
 
     // Refuses a request that is late.
     fn refuse_late(&mut self, state: &HttpState, notes: &mut Notes) -> Result<(), AllocError>
-        ensures { OnOk result (IsRefusedLate self.old self.new) }
+        ensures { OnOk result (IsRefusedLate state.now.guard.proxy self.old self.new) }
     {
+        self.read_sender(state);
         let words = state.words_of_begun(self.came.as_slice())?;
         let written = state.too_late(notes.date())?;
         notes.count(&written);

@@ -9,8 +9,9 @@ use crate::http_state::HttpState;
 use crate::request_log::Notes;
 use dq_request::{Request, Response};
 use dq_web::Counters;
-use dq_wires::{GivesUp, READ_MOST, Wires};
+use dq_wires::{GivenUp, GivesUp, READ_MOST, Reason, Wires};
 use std::alloc::AllocError;
+use std::net::SocketAddr;
 use std::time::Instant;
 
 /// The most connections at a time.
@@ -25,11 +26,18 @@ pub struct HttpServer<W> {
     notes: Notes,
     connections: Vec<HttpConnection>,
     buffer: Vec<u8>,
+    /// How many connections there may be of one address that is not the proxy's.
+    peer_connections: Option<usize>,
 }
 
 impl<W: Wires + GivesUp + Drop> HttpServer<W> {
-    /// Creates a server over wires.
-    pub fn new(rt: &HostRuntime, wires: W, state: HttpState) -> Result<Self, AllocError>
+    /// Creates a server over wires, with so many connections of one address at most.
+    pub fn new(
+        rt: &HostRuntime,
+        wires: W,
+        state: HttpState,
+        peer_connections: Option<usize>,
+    ) -> Result<Self, AllocError>
         ensures wires { IfOk result (λ server. server.wires ≡ wires) }
         ensures state { IfOk result (λ server. server.state ≡ state) }
         ensures connections { IfOk result (λ server. server.connections.items ≡ []) }
@@ -43,6 +51,7 @@ impl<W: Wires + GivesUp + Drop> HttpServer<W> {
             notes: Notes::new(alloc, rt),
             connections: Vec::new(alloc),
             buffer,
+            peer_connections,
         })
     }
 
@@ -136,13 +145,38 @@ impl<W: Wires + GivesUp + Drop> HttpServer<W> {
         }
     }
 
-    // Lets a connection in that came. One for which there is no memory is let go.
+    // Whether there are as many connections of a peer's address as may be. Of the proxy's there may be any
+    // number.
+    fn is_crowded(&self, peer: Option<SocketAddr>) -> bool {
+        let (Some(most), Some(address)) = (self.peer_connections, peer) else {
+            return false;
+        };
+        if self.state.is_proxy(peer) {
+            return false;
+        }
+        let held = self
+            .connections
+            .iter()
+            .filter(|connection| connection.is_of(address.ip()));
+        held.count() >= most
+    }
+
+    // Lets a connection in that came. One for which there is no memory is let go, and one of whose address
+    // there are as many as may be.
     #[tactic(auto, using(crate::proofs::HttpTurns::lets_none, crate::proofs::HttpTurns::lets_one))]
     fn admit(&mut self, place: usize, now: Option<Instant>)
         ensures came { LetsIn self.old.connections.items self.new.connections.items }
         ensures state { self.new.state ≡ self.old.state }
     {
         let peer = self.wires.peer(place);
+        if self.is_crowded(peer) {
+            self.notes.turn_away(Some(GivenUp {
+                peer,
+                reason: Reason::PeerConnections,
+            }));
+            let _ = self.wires.shut(place);
+            return;
+        }
         match self
             .connections
             .push(HttpConnection::new(self.state.alloc, place, peer, now))

@@ -1,6 +1,7 @@
 //! The outcomes for the octets that came from a connection.
-ghost use Rattle.std.specs.Prelude.{◌≡◌, ℕ, List, map, IfOk};
+ghost use Rattle.std.specs.Prelude.{◌≡◌, ℕ, List, map, IsTrue, IfOk, IfSome};
 ghost use Rattle.dq_web.specs.Answers.{IsReplyTo, IsResponse};
+ghost use Rattle.dq_web.specs.Guards.{IsProxy};
 ghost use Rattle.dq_web.specs.Requests.{IsCutOff, IsRequest};
 ghost use Rattle.dq_web.specs.declared.cutting.Cut.TheVariants as cut;
 ghost use Rattle.dq_http.specs.RequestOutcomes.{unread_framing, IsFramed, IsGiven, IsAnswer, IsOutcome, IsTooLate};
@@ -17,6 +18,7 @@ use dq_web::{
 };
 use httpdate::HttpDate;
 use std::alloc::{AllocError, Global};
+use std::net::{IpAddr, SocketAddr};
 
 /// The outcome for the octets that came from a connection.
 #[derive(Drop)]
@@ -180,6 +182,27 @@ impl HttpState {
         ensures { IfOk result (IsTooLate date) }
     {
         refused(self.alloc, Refusal::Time, &unread_framing(date))
+    }
+
+    /// Returns the address from which the request at the front of octets came, as the proxy says it.
+    pub(crate) fn forwarded(&self, peer: Option<SocketAddr>, came: &[u8]) -> Option<IpAddr>
+        ensures { IfSome result (λ _. IsProxy self.now.guard.proxy peer) }
+    {
+        if !self.guard.is_proxy(peer) {
+            return None;
+        }
+        match cut_off(came) {
+            Cut::Begun(head) => self.guard.forwarded(peer, &head.fields),
+            Cut::Whole(request) => self.guard.forwarded(peer, &request.head.fields),
+            Cut::Unfinished | Cut::Refused(_) => None,
+        }
+    }
+
+    /// Whether a peer is the proxy.
+    pub(crate) fn is_proxy(&self, peer: Option<SocketAddr>) -> bool
+        ensures { IsTrue result → IsProxy self.now.guard.proxy peer }
+    {
+        self.guard.is_proxy(peer)
     }
 
     /// The words in the log of a request that has not come whole.

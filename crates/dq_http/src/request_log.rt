@@ -2,14 +2,14 @@
 ghost use Rattle.std.specs.Prelude.{◌≡◌, ◌++◌, ◌==◌, [], None, position, string_bytes, take, IfOk, OnOk};
 ghost use Rattle.std.specs.List.{list_all};
 ghost use Rattle.dq_web.specs.Counting.{with_request};
-ghost use Rattle.dq_http.specs.Notes.{told_octet, told_text, is_of_name, path_of, parts_of, words_text, peer_text, HasNote};
+ghost use Rattle.dq_http.specs.Notes.{told_octet, told_text, is_of_name, path_of, parts_of, words_text, peer_text, sender_text, HasNote};
 
 use dq_web::{Head, RequestCounts, Status, Written};
 use dq_wires::GivenUp;
 use httpdate::HttpDate;
 use std::alloc::{AllocError, Global};
 use std::mem;
-use std::net::SocketAddr;
+use std::net::{IpAddr, SocketAddr};
 use std::time::{Instant, SystemTime};
 
 /// The most octets of a path that are told.
@@ -108,6 +108,14 @@ pub(crate) fn words_of(alloc: Global, head: &Head<'_>) -> Result<String, AllocEr
 /// The words of a request that cannot be read.
 pub(crate) const UNREADABLE: &str = "- - -";
 
+/// The sender of a request: the address of its peer, if that is known, and that from which the peer
+/// says that the request came, if it is a proxy that is believed.
+#[derive(Clone, Copy)]
+pub(crate) struct Sender {
+    pub address: Option<SocketAddr>,
+    pub forwarded: Option<IpAddr>,
+}
+
 /// The address of a peer, or a hyphen where it is not known.
 fn peer_text(alloc: Global, peer: Option<SocketAddr>) -> Result<String, AllocError>
     ensures { IfOk result (λ text. string_bytes text ≡ peer_text peer) }
@@ -115,6 +123,17 @@ fn peer_text(alloc: Global, peer: Option<SocketAddr>) -> Result<String, AllocErr
     match peer {
         Some(peer) => format!(in alloc; "{peer}"),
         None => String::from_str(alloc, "-"),
+    }
+}
+
+/// The address of a sender, followed by that from which its request came.
+fn sender_text(alloc: Global, sender: Sender) -> Result<String, AllocError>
+    ensures { IfOk result (λ text. string_bytes text ≡ sender_text sender) }
+{
+    let peer = peer_text(alloc, sender.address)?;
+    match sender.forwarded {
+        Some(address) => format!(in alloc; "{peer} for {address}"),
+        None => Ok(peer),
     }
 }
 
@@ -172,7 +191,7 @@ impl Notes {
     /// Adds a note of a peer's request that was whole at an instant, and of the status of its response.
     pub fn tell(
         &mut self,
-        peer: Option<SocketAddr>,
+        peer: Sender,
         words: &str,
         begun: Option<Instant>,
         status: Status,
@@ -186,7 +205,7 @@ impl Notes {
             _ => 0,
         };
         let code = status.code();
-        let peer = peer_text(self.alloc, peer)?;
+        let peer = sender_text(self.alloc, peer)?;
         let line = format!(in self.alloc; "{peer} {words} {code} ms {milliseconds}\n")?;
         self.lines.push_str(line.as_str())
     }

@@ -3,6 +3,9 @@ use Rattle.std.specs.Prelude.{◌≡◌, ◌⊎◌, ℕ, ◌++◌, ◌&&◌, ◌
 use Rattle.std.specs.Char.{is_ascii_digit}
 use Rattle.std.specs.List.{list_all, list_any}
 use Rattle.std.specs.Str.{bytes_eq, trim_start}
+use Rattle.std.specs.Net.Socket.{socket_ip}
+use Rattle.std.specs.declared.net.ip_addr.IpAddr.{IpAddr}
+use Rattle.std.specs.declared.net.socket_addr.SocketAddr.{SocketAddr}
 use Rattle.sha2.specs.Sha256.{sha256}
 use Rattle.dq_web.specs.declared.cutting.Fields.{Fields}
 use Rattle.dq_web.specs.declared.guard.Guard.{Guard}
@@ -91,6 +94,15 @@ pub record IsAdmitted (guard : Guard) (host : List ℕ) (openness : Openness) (f
   pub known : IsKnownHost guard.host host
   pub sender : IsTrue (is_to_viewer openness && is_of_viewer guard.viewer (option_copied fields.origin))
       ⊎ IsOfSite host (is_to_tab openness) fields
+
+-- ---- a proxy
+
+-- a peer has the address of the proxy that is named
+abbrev pub IsProxy : Option IpAddr → Option SocketAddr → Type 0
+IsProxy proxy (Some peer) = proxy ≡ Some (socket_ip peer)
+IsProxy proxy None = ⊥
+
+-- ---- keys
 
 -- an Authorization tells a key: behind the scheme, in letters of either case, and spaces (RFC 9110 section
 -- 11.4, RFC 6750 section 2.1)

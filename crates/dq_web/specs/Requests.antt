@@ -1,5 +1,5 @@
 -- Requests of HTTP, as they stand in the octets of a connection (RFC 9112).
-use Rattle.std.specs.Prelude.{◌≡◌, ℕ, ◌+◌, ◌<◌, ◌≤◌, ◌++◌, ◌==◌, ◌||◌, ◌&&◌, not, Bool, true, false, List, length, map, filter, drop, codes, Option, Some, None, option_to_list, option_copied}
+use Rattle.std.specs.Prelude.{◌≡◌, ℕ, ◌+◌, ◌<◌, ◌≤◌, ◌++◌, ◌==◌, ◌||◌, ◌&&◌, not, Bool, true, false, List, [], ◌∷◌, length, map, filter, drop, codes, Option, Some, None, option_to_list, option_copied}
 use Rattle.std.specs.Char.{to_ascii_lowercase}
 use Rattle.std.specs.List.{list_any, slice_split}
 use Rattle.std.specs.Str.{bytes_eq}
@@ -29,6 +29,11 @@ values_named name fields =
 -- the value of the only field with the name, or no field has it
 abbrev pub IsSole : List ℕ → List (List ℕ × List ℕ) → Option (List ℕ) → Type 0
 IsSole name fields found = values_named name fields ≡ option_to_list found
+
+-- the value of the last field with the name, or no field has it
+abbrev pub IsLast : List ℕ → List (List ℕ × List ℕ) → Option (List ℕ) → Type 0
+IsLast name fields None = values_named name fields ≡ []
+IsLast name fields (Some value) = (others : List (List ℕ)) × (values_named name fields ≡ others ++ value ∷ [])
 
 -- what stands between the words of a list: a comma, a blank beside one, or a semicolon before a parameter
 -- (RFC 9110 sections 5.6.1 and 5.6.6)
@@ -63,8 +68,8 @@ passes wanted list = list_any (passes_word wanted) (slice_split is_between list)
 abbrev pub any_passes : Test → List ℕ → List (List ℕ × List ℕ) → Bool
 any_passes wanted name pairs = list_any (passes wanted) (values_named name pairs)
 
--- The values of the fields that count. Connection and Accept are lists, and may stand more than once; each
--- other one stands once at most. Where no Accept says so, JSON is accepted.
+-- The values of the fields that count. Connection and Accept are lists, and may stand more than once; so may what
+-- proxies say, of which the last counts; each other one stands once at most. Where no Accept says so, JSON is accepted.
 pub record AreFields (pairs : List (List ℕ × List ℕ)) (fields : Fields) : Type 0 where
   pub host : IsSole (codes "host") pairs (option_copied fields.host)
   pub origin : IsSole (codes "origin") pairs (option_copied fields.origin)
@@ -73,6 +78,8 @@ pub record AreFields (pairs : List (List ℕ × List ℕ)) (fields : Fields) : T
   pub request_method : IsSole (codes "access-control-request-method") pairs (option_copied fields.request_method)
   pub authorization : IsSole (codes "authorization") pairs (option_copied fields.authorization)
   pub expect : IsSole (codes "expect") pairs (option_copied fields.expect)
+  pub forwarded_for : IsLast (codes "x-forwarded-for") pairs (option_copied fields.forwarded_for)
+  pub forwarded : IsLast (codes "forwarded") pairs (option_copied fields.forwarded)
   pub content_length : IsSole (codes "content-length") pairs (option_copied fields.content_length)
   pub transfer_encoding : IsSole (codes "transfer-encoding") pairs (option_copied fields.transfer_encoding)
   pub closes : fields.closes ≡ any_passes test.Close (codes "connection") pairs

@@ -2,7 +2,7 @@
 ghost use Rattle.std.specs.Prelude.{◌≡◌, ◌≤◌, ◌||◌, ◌==◌, length, map, codes, not, All, IfOk, option_copied};
 ghost use Rattle.httparse.specs.Spans.{IsHeaderWithin, IsRequestWithin, IsRequestOf, header_bytes};
 ghost use Rattle.dq_web.specs.declared.cutting.Test.TheVariants as test;
-ghost use Rattle.dq_web.specs.Requests.{is_named, IsSole, AreFields, IsBodyLength, IsHead, IsCutOff, IsContentLength, is_between, is_dicom_json_range, is_json_range, passes_word, passes, any_passes, is_expecting, is_of_head};
+ghost use Rattle.dq_web.specs.Requests.{is_named, IsSole, IsLast, AreFields, IsBodyLength, IsHead, IsCutOff, IsContentLength, is_between, is_dicom_json_range, is_json_range, passes_word, passes, any_passes, is_expecting, is_of_head};
 
 use crate::refusal::Refusal;
 use httparse::spans::{EMPTY_HEADER_SPAN, HeaderSpan, RequestSpans, parse_request};
@@ -28,6 +28,9 @@ pub struct Fields<'a> {
     pub request_method: Option<&'a [u8]>,
     pub authorization: Option<&'a [u8]>,
     pub expect: Option<&'a [u8]>,
+    /// The last X-Forwarded-For and the last Forwarded, by which proxies say where a request came from.
+    pub forwarded_for: Option<&'a [u8]>,
+    pub forwarded: Option<&'a [u8]>,
     pub content_length: Option<&'a [u8]>,
     pub transfer_encoding: Option<&'a [u8]>,
     /// Whether a Connection says that no request follows.
@@ -111,6 +114,24 @@ fn sole_value<'a>(
         }
     }
     Ok(found)
+}
+
+/// The value of the last field with a name.
+fn last_value<'a>(
+    octets: &'a [u8],
+    headers: &[HeaderSpan],
+    name: &[u8],
+) -> Option<&'a [u8]>
+    requires { All (IsHeaderWithin (length octets.now)) headers.now }
+    ensures { IsLast name.now (map (header_bytes octets.now) headers.now) (option_copied result) }
+{
+    let mut found = None;
+    for header in headers {
+        if is_named(name, header.name.of(octets)) {
+            found = Some(header.value.of(octets));
+        }
+    }
+    found
 }
 
 fn is_between(octet: u8) -> bool
@@ -204,6 +225,8 @@ fn fields_of<'a>(octets: &'a [u8], headers: &[HeaderSpan]) -> Result<Fields<'a>,
         request_method,
         authorization,
         expect,
+        forwarded_for: last_value(octets, headers, b"x-forwarded-for"),
+        forwarded: last_value(octets, headers, b"forwarded"),
         content_length,
         transfer_encoding,
         closes: any_passes(octets, headers, b"connection", Test::Close),

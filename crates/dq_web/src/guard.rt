@@ -2,23 +2,27 @@
 ghost use Rattle.std.specs.Prelude.{◌≡◌, ◌++◌, ◌&&◌, codes, Some, IsTrue, IfOk, IfErr, OnOk, IfSome, option_copied};
 ghost use Rattle.std.specs.Char.{is_ascii_digit};
 ghost use Rattle.std.specs.List.{list_all};
-ghost use Rattle.dq_web.specs.Guards.{IsAt, IsKnownHost, IsOrigin, IsSameOrigin, IsSameSite, IsAllowedSite, IsOfSite, IsAdmitted, is_to_viewer, is_to_tab, is_of_viewer, viewer_of, is_look, is_preflight, TellsKey, IsOpened};
+ghost use Rattle.dq_web.specs.Guards.{IsAt, IsKnownHost, IsOrigin, IsSameOrigin, IsSameSite, IsAllowedSite, IsOfSite, IsAdmitted, is_to_viewer, is_to_tab, is_of_viewer, viewer_of, is_look, is_preflight, IsProxy, TellsKey, IsOpened};
 ghost use Rattle.dq_web.specs.Requests.{is_named};
 
 use crate::cutting::{Fields, is_named};
+use crate::forwarding::forwarded_address;
 use crate::keys::{Keys, at_space};
 use crate::refusal::Refusal;
 use crate::resource::behind;
 use dq_list::Listed;
 use std::alloc::{AllocError, Global};
+use std::net::{IpAddr, SocketAddr};
 
-/// The keys that the front admits; a host of its own that it admits beside those of the loopback; and
-/// the origin of a viewer, whose pages may read what is searched.
+/// The keys that the front admits; a host of its own that it admits beside those of the loopback; the
+/// origin of a viewer, whose pages may read what is searched; and the address of a proxy, which is
+/// believed where requests came from.
 #[derive(Drop)]
 pub struct Guard {
     pub keys: Keys,
     pub host: Option<Listed<u8>>,
     pub viewer: Option<Listed<u8>>,
+    pub proxy: Option<IpAddr>,
 }
 
 /// The pages of other sites that may send a request.
@@ -238,6 +242,27 @@ impl Guard {
                 Ok(Some(Listed::copy_of(alloc, origin)?))
             }
             _ => Ok(None),
+        }
+    }
+
+    /// Whether a peer is the proxy.
+    pub fn is_proxy(&self, peer: Option<SocketAddr>) -> bool
+        ensures { IsTrue result → IsProxy self.now.proxy peer }
+    {
+        match (self.proxy, peer) {
+            (Some(proxy), Some(peer)) => peer.ip() == proxy,
+            _ => false,
+        }
+    }
+
+    /// Returns the address from which a request came, as the proxy says it.
+    pub fn forwarded(&self, peer: Option<SocketAddr>, fields: &Fields<'_>) -> Option<IpAddr>
+        ensures { IfSome result (λ _. IsProxy self.now.proxy peer) }
+    {
+        if self.is_proxy(peer) {
+            forwarded_address(fields)
+        } else {
+            None
         }
     }
 

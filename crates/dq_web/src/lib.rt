@@ -4,6 +4,7 @@
 
 mod counters;
 mod cutting;
+mod forwarding;
 mod guard;
 mod keys;
 pub mod laws;

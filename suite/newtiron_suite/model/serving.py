@@ -311,6 +311,7 @@ def parser() -> argparse.ArgumentParser:
     words.add_argument("--web-listen", metavar="<ADDRESS>")
     words.add_argument("--web-host", metavar="<HOST>")
     words.add_argument("--web-origin", type=origin, metavar="<ORIGIN>")
+    words.add_argument("--web-proxy", metavar="<ADDRESS>")
     words.add_argument("--web-peer-connections", type=number_in(0, 2 ** 32 - 1), metavar="<N>")
     words.add_argument("--log", action="store_true")
     words.add_argument("--log-file", metavar="<FILE>")
@@ -321,7 +322,8 @@ def serve(words: list[str], service: type = Service) -> int:
     """Serves as the words say; the exit status."""
     parsed = parser()
     words = parsed.parse_args(words)
-    beside_web = (words.web_listen, words.web_host, words.web_origin, words.web_peer_connections)
+    beside_web = (words.web_listen, words.web_host, words.web_origin, words.web_proxy,
+                  words.web_peer_connections)
     if (words.web is None) != (words.web_keys is None) or words.web is None and any(
             word is not None for word in beside_web):
         parsed.error("--web and --web-keys go together")

@@ -10,6 +10,7 @@ import contextlib
 import email.utils
 import hashlib
 import http.client
+import ipaddress
 import pathlib
 import re
 import selectors
@@ -356,5 +357,7 @@ def begun(keeping: Keeping, words: argparse.Namespace) -> WebService | None:
     """The front that the words ask for; None where they ask for none."""
     if words.web is None:
         return None
+    if words.web_proxy is not None:
+        ipaddress.ip_address(words.web_proxy)
     return WebService(keeping, read_keys(words.web_keys), (words.web_listen or HOST, words.web),
                       words.web_host, words.web_origin)

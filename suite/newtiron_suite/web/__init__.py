@@ -23,6 +23,7 @@
     metrics     each line of the metrics, and what they count
     backup      the operator's backup, and its refusals
     log         the line of each request
+    proxies     what a proxy says of the address of its clients, and how many it may connect
     curl        the same by curl, where it is installed
     lists       the page in headless Chromium, where it is installed: its lists, their order,
                 searches and pages
@@ -43,7 +44,7 @@ from .entries import entries, looks
 from .keys import keys
 from .loads import crowd, late, many, slow
 from .operator import backup, curl, log, metrics
-from .others import nginx, orthanc
+from .others import nginx, orthanc, proxies
 from .page import browser, items, lists, page, picture
 from .requests import grammar, hosts, methods
 from .searches import hospitals, searches
@@ -53,8 +54,8 @@ PARTS: dict[str, Part] = {
     "page": page, "keys": keys, "hospitals": hospitals, "searches": searches, "entries": entries,
     "looks": looks, "methods": methods, "hosts": hosts, "viewers": viewers, "grammar": grammar,
     "slow": slow, "late": late, "crowd": crowd, "many": many, "metrics": metrics, "backup": backup,
-    "log": log, "curl": curl, "lists": lists, "items": items, "browser": browser,
-    "orthanc": orthanc, "nginx": nginx,
+    "log": log, "proxies": proxies, "curl": curl, "lists": lists, "items": items,
+    "browser": browser, "orthanc": orthanc, "nginx": nginx,
 }
 
 

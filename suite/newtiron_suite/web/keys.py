@@ -130,6 +130,10 @@ def key_files(tally: Tally, folder: pathlib.Path) -> None:
             ("port 65536", 1, ["--web", 65536, *keyed]),
             ("an address without a port", 1, ["--web-listen", HOST]),
             ("a host without a port", 1, ["--web-host", "localhost"]),
+            ("a proxy that is no address", 5,
+             ["--web", free_port(), *keyed, "--web-proxy", "proxy"]),
+            ("a proxy with a port", 5, ["--web", free_port(), *keyed, "--web-proxy", f"{HOST}:80"]),
+            ("a proxy without a port of the front", 1, ["--web-proxy", HOST]),
             ("an origin without a port", 1, ["--web-origin", "https://viewer.example"]),
             *[(f"the origin {origin!r}", 1, ["--web", free_port(), *keyed, "--web-origin", origin])
               for origin in NO_ORIGINS],

@@ -48,6 +48,7 @@ fn guard_of(alloc: Global) -> Result<Guard, Fail> {
         keys: Keys::read(alloc, KEYS)?,
         host: None,
         viewer: Some(Listed::copy_of(alloc, b"https://viewer.example")?),
+        proxy: None,
     })
 }
 
