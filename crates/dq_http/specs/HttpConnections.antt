@@ -203,10 +203,10 @@ is_past (Some now) (Some since) seconds =
     nat_le seconds ((instant_nanos now - instant_nanos since) / 1_000_000_000)
 is_past now since seconds = false
 
--- what a connection waits for did not come in that time
+-- what a connection waits for did not come in that time, nor has anything just come that was not looked at
 abbrev pub is_late : Option Instant → HttpConnection → Bool
-is_late now connection =
-    is_past now connection.since (seconds_for connection.awaits_body) && is_reading connection.stage
+is_late now connection = is_past now connection.since (seconds_for connection.awaits_body)
+    && is_reading connection.stage && not connection.is_fresh
 
 -- it is told so, and nothing comes after that
 abbrev pub IsRefusedLate : Option IpAddr → HttpConnection → HttpConnection → Type 0

@@ -350,7 +350,8 @@ impl HttpConnection {
         }
     }
 
-    // Whether the head or the body that it waits for has not come in the time that it has.
+    // Whether the head or the body that it waits for has not come in the time that it has. What has just come
+    // is looked at first: it may have waited for the server.
     fn is_late(&self, now: Option<Instant>) -> bool
         ensures { result ≡ is_late now self.now }
     {
@@ -363,6 +364,7 @@ impl HttpConnection {
             (Some(now), Some(since)) => {
                 now.duration_since(since).as_secs() >= seconds
                     && matches!(self.stage, Stage::Reading)
+                    && !self.is_fresh
             }
             _ => false,
         }

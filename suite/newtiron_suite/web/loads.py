@@ -2,6 +2,7 @@
 import contextlib
 import pathlib
 import re
+import signal
 import threading
 import time
 from concurrent.futures import ThreadPoolExecutor
@@ -107,6 +108,25 @@ def late(tally: Tally, folder: pathlib.Path) -> None:
             and len(re.findall(r" web \S+ POST NORTH /worklist 408 ms 60\d{3}\n",
                                log.read_text())) == 1, 5), log.read_text())
         pair.is_right(tally, "late")
+        held_up(tally, pair)
+
+
+def held_up(tally: Tally, pair: Pair) -> None:
+    """A request whose rest came in time, while the server did not look, is answered."""
+    with pair.connect() as speaker, pair.connect() as silent:
+        octets = speaker.request("GET", "/NORTH/counts", pair.keys["NORTH"])
+        speaker.send(octets[:40])
+        silent.send(octets[:40])
+        time.sleep(0.5)
+        pair.server.child.send_signal(signal.SIGSTOP)
+        speaker.send(octets[40:])
+        time.sleep(HEAD_TIME + 1)
+        pair.server.child.send_signal(signal.SIGCONT)
+        told, other = speaker.response(), silent.response()
+        tally.check("a request that waited for the server is answered",
+                    told is not None and told.status == 200, told and told.head)
+        tally.check("one that has not come is not",
+                    other is not None and other.status == 408, other and other.head)
 
 
 def crowd(tally: Tally, folder: pathlib.Path) -> None:
