@@ -182,7 +182,7 @@ IsSender proxy old new = IfSome new.peer.forwarded (λ _. IsProxy proxy old.peer
 abbrev pub TakesUp : Guard → Option Instant → HttpConnection → HttpConnection → Type 0
 TakesUp guard now old new = ((is_to_take old ≡ false) × (new ≡ old))
     ⊎ (IsTrue (is_to_take old) × ((mid : HttpConnection) × IsSender guard.proxy old mid
-    × ((outcome : RequestOutcome) × IsOutcome guard old.came.items outcome × Takes now outcome mid new)))
+    × ((outcome : RequestOutcome) × IsOutcome guard mid.came.items outcome × Takes now outcome mid new)))
 
 -- ---- the time that a request has
 

@@ -160,7 +160,7 @@ date_field (Some date) = codes "Date: " ++ (date_text date ++ line_end)
 abbrev pub viewer_fields : Option (List ℕ) → List ℕ
 viewer_fields None = []
 viewer_fields (Some origin) = codes "Access-Control-Allow-Origin: " ++ (origin ++ (line_end
-    ++ (codes "Access-Control-Expose-Headers: Warning\r\n" ++ codes "Vary: Origin\r\n")))
+    ++ codes "Access-Control-Expose-Headers: Warning\r\nVary: Origin\r\n"))
 
 -- fuzzy matching was asked for, and there is none (PS3.18 section 8.3.4.2)
 abbrev pub literal_field : Bool → List ℕ

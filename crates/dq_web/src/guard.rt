@@ -237,11 +237,12 @@ impl Guard {
     ) -> Result<Option<Listed<u8>>, AllocError>
         ensures { IfOk result (λ viewer. viewer ≡ viewer_of self.now fields.now) }
     {
+        if !self.is_of_viewer(fields.origin) {
+            return Ok(None);
+        }
         match fields.origin {
-            Some(origin) if self.is_of_viewer(fields.origin) => {
-                Ok(Some(Listed::copy_of(alloc, origin)?))
-            }
-            _ => Ok(None),
+            Some(origin) => Ok(Some(Listed::copy_of(alloc, origin)?)),
+            None => Ok(None),
         }
     }
 
