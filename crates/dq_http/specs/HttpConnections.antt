@@ -28,12 +28,13 @@ use Rattle.dq_http.specs.declared.http_connection.TheConstants.{CONTINUE}
 use Rattle.dq_http.specs.declared.http_connection.Stage.{Stage}
 use Rattle.dq_http.specs.declared.http_connection.Stage.TheVariants as stage
 use Rattle.dq_http.specs.declared.http_connection.HttpConnection.{HttpConnection}
+use Rattle.dq_http.specs.Notes.{direct_sender}
 use Rattle.dq_http.specs.RequestOutcomes.{IsOutcome, IsTooLate}
 
 -- one that has just come from a peer, and of which nothing is read
 pub record IsNew (place : ℕ) (peer : Option SocketAddr) (connection : HttpConnection) : Type 0 where
   pub at : connection.place ≡ place
-  pub from : connection.peer ≡ record { address = peer; forwarded = None }
+  pub from : connection.peer ≡ direct_sender peer
   pub came : connection.came.items ≡ []
   pub stage : connection.stage ≡ stage.Reading
   pub last : connection.is_last ≡ false

@@ -52,6 +52,10 @@ abbrev pub peer_text : Option SocketAddr → List ℕ
 peer_text None = codes "-"
 peer_text (Some peer) = socket_text peer
 
+-- one for whom no proxy has spoken
+abbrev pub direct_sender : Option SocketAddr → Sender
+direct_sender peer = record { address = peer; forwarded = None }
+
 -- that of a sender, and the address from which its peer says that the request came
 abbrev pub forwarded_text : Option IpAddr → List ℕ
 forwarded_text None = []
