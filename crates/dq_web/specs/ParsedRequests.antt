@@ -33,6 +33,8 @@ use Rattle.dq_web.specs.declared.parsed_request.Document.TheVariants as document
 use Rattle.dq_web.specs.declared.parsed_request.Method.{Method}
 use Rattle.dq_web.specs.declared.parsed_request.Method.TheVariants.{Get, Post, Delete, Preflight, Other}
 use Rattle.dq_web.specs.declared.parsed_request.Method.TheVariants as method
+use Rattle.dq_web.specs.declared.parsed_request.PartTest.{PartTest}
+use Rattle.dq_web.specs.declared.parsed_request.PartTest.TheVariants as test
 use Rattle.dq_web.specs.declared.parsed_request.Question.{Question}
 use Rattle.dq_web.specs.declared.parsed_request.Wanted.{Wanted}
 use Rattle.dq_web.specs.declared.parsed_request.Wanted.TheVariants as wanted
@@ -312,13 +314,18 @@ IsJudged guard head = (aim : Aim) × IsLetIn guard head aim
 abbrev pub is_fuzzy : List ℕ → Bool
 is_fuzzy part = bytes_eq part (codes "fuzzymatching=true")
 
+-- a part of a query passes a test
+abbrev pub passes_part : PartTest → List ℕ → Bool
+passes_part test.Fuzzy part = is_fuzzy part
+passes_part test.Unknown part = is_unknown part
+
 -- how the answers to a search are wanted: where none is found an empty array, in place of no content, where an
 -- Accept allows DICOM JSON; whether matching is to be fuzzy; and whether a parameter is unknown
 abbrev pub wish_of : Fields → List ℕ → Wish
 wish_of fields query = record {
   wants_array = fields.asks_dicom_json;
-  is_fuzzy = list_any is_fuzzy (parts_of query);
-  has_unknown = list_any is_unknown (parts_of query);
+  is_fuzzy = list_any (passes_part test.Fuzzy) (parts_of query);
+  has_unknown = list_any (passes_part test.Unknown) (parts_of query);
 }
 
 -- A request of HTTP asks a question: it is let in, its key opens the resource, its path, method, query and body say what

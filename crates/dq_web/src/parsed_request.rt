@@ -4,7 +4,7 @@ ghost use Rattle.std.specs.List.{list_all, list_any, starts_with};
 ghost use Rattle.std.specs.Str.{bytes_eq};
 ghost use Rattle.percent_encoding.specs.Percent.{percent_decode};
 ghost use Rattle.dq_request.specs.Searches.{TakesWords, StopsAt, name_in};
-ghost use Rattle.dq_web.specs.ParsedRequests.{is_visible, is_printable, is_silent, is_attribute, is_unknown, is_left_out, parts_of, words_among, words_in, uid_key, hundred_of, series_of, images_of, IsSearchAt, is_searched, only_looks, openness_of, is_leave_asked, owner_of, IsPathAndQuery, IsTarget, IsMethodOf, IsLooked, IsBackup, Posting, Deleting, IsWanted, has_no_slash, is_plain_segment, is_plain_path, is_page, IsLetIn, IsJudged, is_fuzzy, wish_of, IsAsked, IsResourceAt, IsKindAt};
+ghost use Rattle.dq_web.specs.ParsedRequests.{is_visible, is_printable, is_silent, is_attribute, is_unknown, is_left_out, parts_of, words_among, words_in, uid_key, hundred_of, series_of, images_of, IsSearchAt, is_searched, only_looks, openness_of, is_leave_asked, owner_of, IsPathAndQuery, IsTarget, IsMethodOf, IsLooked, IsBackup, Posting, Deleting, IsWanted, has_no_slash, is_plain_segment, is_plain_path, is_page, IsLetIn, IsJudged, is_fuzzy, passes_part, wish_of, IsAsked, IsResourceAt, IsKindAt};
 
 use crate::cutting::{Fields, Head, HttpRequest};
 use crate::guard::{Guard, Openness};
@@ -97,6 +97,15 @@ enum Wanted {
     Request(Request),
     /// The part of the query that is no word of the search.
     Misspelled(String),
+}
+
+/// A test of the parts of a query.
+#[derive(Clone, Copy)]
+enum PartTest {
+    /// That it asks for fuzzy matching.
+    Fuzzy,
+    /// That it names neither an attribute nor the page.
+    Unknown,
 }
 
 /// Why nothing is asked.
@@ -433,24 +442,23 @@ fn is_fuzzy(part: &str) -> bool
     part == "fuzzymatching=true"
 }
 
-/// Whether a query asks for fuzzy matching.
-fn asks_fuzzy(query: &str) -> bool
-    ensures { result ≡ list_any is_fuzzy (parts_of query.now) }
+/// Whether a part of a query passes a test.
+fn passes_part(wanted: PartTest, part: &str) -> bool
+    ensures { result ≡ passes_part wanted part.now }
 {
-    let mut is_asked = false;
-    for part in query.split('&') {
-        is_asked = is_asked || is_fuzzy(part);
+    match wanted {
+        PartTest::Fuzzy => is_fuzzy(part),
+        PartTest::Unknown => is_unknown(part),
     }
-    is_asked
 }
 
-/// Whether a query has a parameter that is unknown.
-fn has_unknown(query: &str) -> bool
-    ensures { result ≡ list_any is_unknown (parts_of query.now) }
+/// Whether one of the parts of a query does.
+fn has_part(wanted: PartTest, query: &str) -> bool
+    ensures { result ≡ list_any (passes_part wanted) (parts_of query.now) }
 {
     let mut is_found = false;
     for part in query.split('&') {
-        is_found = is_found || is_unknown(part);
+        is_found = is_found || passes_part(wanted, part);
     }
     is_found
 }
@@ -461,8 +469,8 @@ fn wish_of(fields: &Fields<'_>, query: &str) -> Wish
 {
     Wish {
         wants_array: fields.asks_dicom_json,
-        is_fuzzy: asks_fuzzy(query),
-        has_unknown: has_unknown(query),
+        is_fuzzy: has_part(PartTest::Fuzzy, query),
+        has_unknown: has_part(PartTest::Unknown, query),
     }
 }
 
