@@ -305,10 +305,10 @@ is_open Script = true
 is_open Health = true
 is_open resource = false
 
--- a head is let in, and the resource is open to all, or the key opens it
+-- a head is let in, and it only asks leave to look, or the resource is open to all, or the key opens it
 abbrev pub IsJudged : Guard → Head → Type 0
 IsJudged guard head = (aim : Aim) × IsLetIn guard head aim
-    × (IsTrue (is_open aim.resource) ⊎ IsOpened guard.keys (owner_of aim.resource) (option_copied head.fields.authorization))
+    × (IsTrue (is_leave_asked aim.method || is_open aim.resource) ⊎ IsOpened guard.keys (owner_of aim.resource) (option_copied head.fields.authorization))
 
 -- a part of a query asks for fuzzy matching (PS3.18 section 8.3.4.2)
 abbrev pub is_fuzzy : List ℕ → Bool

@@ -759,6 +759,9 @@ fn check_head(alloc: Global, guard: &Guard, head: &Head<'_>) -> Result<(), Unask
     ensures { OnOk result (IsJudged guard.now head.now) }
 {
     let aim = let_in(alloc, guard, head)?;
+    if aim.method.is_preflight() {
+        return Ok(());
+    }
     match aim.resource {
         Resource::Page | Resource::Style | Resource::Script | Resource::Health => Ok(()),
         _ => Ok(guard.open(owner_of(aim.resource), head.fields.authorization)?),
