@@ -157,10 +157,13 @@ date_field None = []
 date_field (Some date) = codes "Date: " ++ (date_text date ++ line_end)
 
 -- pages of this origin may read the response, and the warnings in its head (the CORS protocol of the Fetch standard)
+abbrev pub origin_field : List ℕ → List ℕ
+origin_field origin = codes "Access-Control-Allow-Origin: " ++ (origin ++ line_end)
+
 abbrev pub viewer_fields : Option (List ℕ) → List ℕ
 viewer_fields None = []
-viewer_fields (Some origin) = codes "Access-Control-Allow-Origin: " ++ (origin ++ (line_end
-    ++ codes "Access-Control-Expose-Headers: Warning\r\nVary: Origin\r\n"))
+viewer_fields (Some origin) =
+    origin_field origin ++ codes "Access-Control-Expose-Headers: Warning\r\nVary: Origin\r\n"
 
 -- fuzzy matching was asked for, and there is none (PS3.18 section 8.3.4.2)
 abbrev pub literal_field : Bool → List ℕ

@@ -1,7 +1,7 @@
 //! Responses as octets (RFC 9112 section 2.1).
 ghost use Rattle.std.specs.Prelude.{◌≡◌, ◌++◌, length, option_copied, IfOk, OnOk};
 ghost use Rattle.std.specs.Fmt.{decimal};
-ghost use Rattle.dq_web.specs.Responses.{content_type, extra_fields, has_content, guarding_fields, closing_field, date_field, viewer_fields, literal_field, unknown_field, full_field, warning_fields, content, type_field, length_field, body_fields, head_text, whole_head_text};
+ghost use Rattle.dq_web.specs.Responses.{content_type, extra_fields, has_content, guarding_fields, closing_field, date_field, origin_field, viewer_fields, literal_field, unknown_field, full_field, warning_fields, content, type_field, length_field, body_fields, head_text, whole_head_text};
 ghost use Rattle.dq_web.specs.Answers.{IsWritten};
 
 use crate::refusal::Allowed;
@@ -212,7 +212,17 @@ fn put_date(head: &mut Vec<u8>, date: Option<HttpDate>) -> Result<(), AllocError
     Ok(())
 }
 
-/// Adds the origin whose pages may read a response.
+/// Adds an origin whose pages may read a response.
+fn put_origin(head: &mut Vec<u8>, origin: &[u8]) -> Result<(), AllocError>
+    ensures { OnOk result (head.new.items ≡ head.old.items ++ origin_field origin.now) }
+{
+    put(head, "Access-Control-Allow-Origin: ")?;
+    head.extend_from_slice(origin)?;
+    put(head, "\r\n")?;
+    Ok(())
+}
+
+/// Adds that the pages of an origin may read a response, if there is one.
 fn put_viewer(head: &mut Vec<u8>, viewer: Option<&[u8]>) -> Result<(), AllocError>
     ensures { OnOk result (head.new.items ≡ head.old.items
         ++ viewer_fields (option_copied viewer.entry)) }
@@ -220,13 +230,12 @@ fn put_viewer(head: &mut Vec<u8>, viewer: Option<&[u8]>) -> Result<(), AllocErro
     let Some(origin) = viewer else {
         return Ok(());
     };
-    put(head, "Access-Control-Allow-Origin: ")?;
-    head.extend_from_slice(origin)?;
-    put(head, "\r\n")?;
+    put_origin(head, origin)?;
     put(
         head,
         "Access-Control-Expose-Headers: Warning\r\nVary: Origin\r\n",
-    )
+    )?;
+    Ok(())
 }
 
 /// The field that says that matching was not fuzzy.
