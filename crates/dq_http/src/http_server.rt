@@ -97,9 +97,11 @@ impl<W: Wires + GivesUp + Drop> HttpServer<W> {
 
     /// Takes the counts of what was served until now, beside those of its own requests.
     pub fn set_counters(&mut self, counters: Counters)
-        ensures { self.new ≡ record self.old { state = record self.old.state {
-          counters = record counters { requests = self.old.notes.requests };
-        } } }
+        ensures { self.new ≡ record self.old {
+          state = record self.old.state {
+            counters = record counters { requests = self.old.notes.requests };
+          };
+        } }
     {
         let mut counters = counters;
         counters.requests = self.notes.requests();

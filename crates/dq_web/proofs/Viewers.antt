@@ -1,5 +1,5 @@
 -- What pages of the viewer's origin ask.
-use Rattle.std.proofs.Common.{◌≡◌, Bool, true, false, refl, List, ℕ}
+use Rattle.std.proofs.Common.{Bool, true, false, refl, List, ℕ}
 use Rattle.std.specs.Prelude.{◌&&◌, if◌then◌else◌, IsTrue}
 use Rattle.dq_request.specs.declared.request.Request.{Request}
 use Rattle.dq_web.specs.declared.guard.Openness.TheVariants.{Closed, Tab, Viewer}

@@ -117,11 +117,7 @@ fn sole_value<'a>(
 }
 
 /// The value of the last field with a name.
-fn last_value<'a>(
-    octets: &'a [u8],
-    headers: &[HeaderSpan],
-    name: &[u8],
-) -> Option<&'a [u8]>
+fn last_value<'a>(octets: &'a [u8], headers: &[HeaderSpan], name: &[u8]) -> Option<&'a [u8]>
     requires { All (IsHeaderWithin (length octets.now)) headers.now }
     ensures { IsLast name.now (map (header_bytes octets.now) headers.now) (option_copied result) }
 {

@@ -21,7 +21,9 @@ pub use counters::{Class, Counters, Operations, RequestCounts, Service, Turns};
 pub use cutting::{BODY_MOST, Cut, Fields, HEAD_MOST, Head, HttpRequest, cut_off};
 pub use guard::{Guard, Openness};
 pub use keys::{KeyEntry, Keys, KeysFault, OPERATOR};
-pub use parsed_request::{Aim, Document, Method, ParsedRequest, Question, Wish, ask, judge, kind_at};
+pub use parsed_request::{
+    Aim, Document, Method, ParsedRequest, Question, Wish, ask, judge, kind_at,
+};
 pub use refusal::{Allowed, Refusal};
 pub use replies::{Framing, Written};
 pub use resource::{Resource, ResourceKind, resource_of};

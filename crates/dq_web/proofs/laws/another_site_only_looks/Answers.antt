@@ -7,8 +7,8 @@ returns c guard request question asked foreign =
     let at = asked.let_in in
     elim at.admitted.sender [
       | inl opens ↦ (
-          both-right _ _ opens,
-          opened-look asked.aim.method asked.aim.resource _ _ question.asked (both-left _ _ opens) asked.asks,
-        )
+        both-right _ _ opens,
+        opened-look asked.aim.method asked.aim.resource _ _ question.asked (both-left _ _ opens) asked.asks,
+      )
       | inr own ↦ absurd (foreign at.host at.text at.target own.origin)
     ]
