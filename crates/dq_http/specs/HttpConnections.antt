@@ -174,6 +174,11 @@ is_reading other = false
 abbrev pub is_to_take : HttpConnection → Bool
 is_to_take connection = connection.is_fresh && is_reading connection.stage
 
+-- what is to be done for the octets that came is done
+abbrev pub TakesFront : Guard → Option Instant → HttpConnection → HttpConnection → Type 0
+TakesFront guard now old new =
+    (outcome : RequestOutcome) × IsOutcome guard old.came.items outcome × Takes now outcome old new
+
 -- The address from which a request came is read off it, and nothing else changes. Only a proxy is believed.
 abbrev pub IsSender : Option IpAddr → HttpConnection → HttpConnection → Type 0
 IsSender proxy old new = IfSome new.peer.forwarded (λ _. IsProxy proxy old.peer.address)
@@ -182,8 +187,7 @@ IsSender proxy old new = IfSome new.peer.forwarded (λ _. IsProxy proxy old.peer
 -- where a request is read, and something came that was not looked at, what is to be done for it is done
 abbrev pub TakesUp : Guard → Option Instant → HttpConnection → HttpConnection → Type 0
 TakesUp guard now old new = ((is_to_take old ≡ false) × (new ≡ old))
-    ⊎ (IsTrue (is_to_take old) × ((mid : HttpConnection) × IsSender guard.proxy old mid
-    × ((outcome : RequestOutcome) × IsOutcome guard mid.came.items outcome × Takes now outcome mid new)))
+    ⊎ (IsTrue (is_to_take old) × ((mid : HttpConnection) × IsSender guard.proxy old mid × TakesFront guard now mid new))
 
 -- ---- the time that a request has
 

@@ -2,7 +2,7 @@
 ghost use Rattle.std.specs.Prelude.{◌≡◌, option_copied, IfOk, OnOk};
 ghost use Rattle.std.specs.Bool.{OnTrue};
 ghost use Rattle.dq_web.specs.Answers.{IsReplyTo, IsResponse};
-ghost use Rattle.dq_http.specs.HttpConnections.{IsNew, IsOver, IsRest, WritesRest, IsSent, IsRead, IsTakenOff, with_response, AnswersAt, seen, awaiting_body, begun_wait, is_late, IsSender, IsRefusedLate, TakesAnswer, Takes, TakesUp, TakesOrRefuses, Moves, Turns, is_waiting, is_busy, asked_in, asks_report};
+ghost use Rattle.dq_http.specs.HttpConnections.{IsNew, IsOver, IsRest, WritesRest, IsSent, IsRead, IsTakenOff, with_response, AnswersAt, seen, awaiting_body, begun_wait, is_late, IsSender, IsRefusedLate, TakesAnswer, Takes, TakesFront, is_to_take, TakesUp, TakesOrRefuses, Moves, Turns, is_waiting, is_busy, asked_in, asks_report};
 
 use crate::http_state::{Answer, Given, HttpState, RequestOutcome};
 use crate::request_log::{Notes, Sender};
@@ -298,19 +298,15 @@ impl HttpConnection {
         self.peer.forwarded = state.forwarded(self.peer.address, self.came.as_slice());
     }
 
-    // Takes up what came, where a request is read and there is something new.
-    fn take_up(
+    // Does what is to be done for what came.
+    fn take_front(
         &mut self,
         state: &HttpState,
         notes: &mut Notes,
         now: Option<Instant>,
     ) -> Result<(), AllocError>
-        ensures { OnOk result (TakesUp state.now.guard now self.old self.new) }
+        ensures { OnOk result (TakesFront state.now.guard now self.old self.new) }
     {
-        if !self.is_fresh || !matches!(self.stage, Stage::Reading) {
-            return Ok(());
-        }
-        self.read_sender(state);
         match state.outcome_for(self.came.as_slice(), notes.date())? {
             RequestOutcome::AwaitHead => self.is_fresh = false,
             RequestOutcome::AwaitBody => self.await_body(now),
@@ -325,6 +321,30 @@ impl HttpConnection {
             }
             RequestOutcome::Answer(answer) => self.take(answer, notes)?,
         }
+        Ok(())
+    }
+
+    // Whether a request is read, and something came that was not looked at.
+    fn is_to_take(&self) -> bool
+        ensures { result ≡ is_to_take self.now }
+    {
+        self.is_fresh && matches!(self.stage, Stage::Reading)
+    }
+
+    // Takes up what came, where a request is read and there is something new.
+    fn take_up(
+        &mut self,
+        state: &HttpState,
+        notes: &mut Notes,
+        now: Option<Instant>,
+    ) -> Result<(), AllocError>
+        ensures { OnOk result (TakesUp state.now.guard now self.old self.new) }
+    {
+        if !self.is_to_take() {
+            return Ok(());
+        }
+        self.read_sender(state);
+        self.take_front(state, notes, now)?;
         Ok(())
     }
 

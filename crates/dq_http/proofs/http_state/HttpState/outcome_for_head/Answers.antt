@@ -1,10 +1,10 @@
 use Rattle.std.proofs.Common.{inr}
 use Rattle.dq_http.proofs.http_state.HttpState.outcome_for_head.Goals as goal
 
-pub returns-in_ok-refused-in-Some : goal.returns-in_ok-refused-in-Some
-returns-in_ok-refused-in-Some c came begun = (
+pub returns-in-Some : goal.returns-in-Some
+returns-in-Some c came begun = (
   c.in-Some.refusal,
   _,
-  inr (c.args.head.now, begun, c.in_ok-framing_of.ensures),
+  inr (c.args.head.now, begun, c.in_ok-framing.ensures),
   c.in_ok-refused-in-Some.ensures,
 )
