@@ -1,5 +1,5 @@
 -- The command that the words of a command line ask for.
-use Rattle.std.specs.Prelude.{ℕ, ◌==◌, Bool, ◌^◌, ◌&&◌, ◌||◌, nat_lt, if◌then◌else◌, List, [], ◌∷◌, length, map, drop, codes}
+use Rattle.std.specs.Prelude.{ℕ, ◌==◌, Bool, ◌^◌, ◌&&◌, ◌||◌, not, nat_lt, if◌then◌else◌, List, [], ◌∷◌, length, map, drop, codes}
 use Rattle.std.specs.Prelude.{Option, Some, None, is_some, option_map, option_and_then, unwrap_or}
 use Rattle.std.specs.Char.{is_ascii_digit, is_ascii_lowercase}
 use Rattle.std.specs.List.{list_all, starts_with, before_first, after_first}
@@ -180,7 +180,7 @@ abbrev pub is_of_host : ℕ → Bool
 is_of_host octet = is_ascii_lowercase octet || (is_ascii_digit octet || (octet == 45 || octet == 46))
 
 abbrev pub is_host : List ℕ → Bool
-is_host text = nat_lt 0 (length text) && list_all is_of_host text
+is_host text = not (length text == 0) && list_all is_of_host text
 
 abbrev pub is_colon : ℕ → Bool
 is_colon octet = octet == 58

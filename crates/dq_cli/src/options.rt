@@ -1,6 +1,6 @@
 //! The requests in the options of a subcommand, and the errors of those that are not taken.
 ghost use Rattle.std.specs.Prelude.{◌≡◌, ◌==◌, true, false, map, length, drop, option_map, option_and_then, codes, IfOk, MatchOption};
-ghost use Rattle.std.specs.List.{starts_with};
+ghost use Rattle.std.specs.List.{list_all, starts_with};
 ghost use Rattle.std.specs.Option.{option_copied};
 ghost use Rattle.std.specs.Result.{result_ok};
 ghost use Rattle.clap.specs.Words.{subcommand_rows_of};
@@ -210,11 +210,17 @@ fn is_of_host(octet: u8) -> bool
     octet.is_ascii_lowercase() || octet.is_ascii_digit() || octet == b'-' || octet == b'.'
 }
 
+fn are_of_host(octets: &[u8]) -> bool
+    ensures { result ≡ list_all is_of_host octets.now }
+{
+    octets.iter().all(|octet| is_of_host(*octet))
+}
+
 /// Whether a text is a name of hosts or an IPv4 address, as browsers write it.
 fn is_host(text: &str) -> bool
     ensures { result ≡ is_host text.now }
 {
-    !text.is_empty() && text.as_bytes().iter().all(|octet| is_of_host(*octet))
+    !text.is_empty() && are_of_host(text.as_bytes())
 }
 
 /// Returns what stands before the first colon of a text, or all of it.
