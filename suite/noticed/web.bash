@@ -15,6 +15,8 @@ notices 'pages of another length' 'a hundred studies' "$front" "$(server web-pag
 notices 'a key of searches that is not met' 'a search' "$front" "$(server key-not-met:0010,0020)" searches
 notices 'a refusal that is told as done' 'an entry that is the same again' "$front" "$(server web-refuses-as:201)" entries
 notices 'an entry that is not kept' 'entries' "$front" "$(server socket-forgets)" entries
+notices 'JSON that is no entry' 'JSON, plain' "$front" "$(server web-reads-no-json)" entries
+notices 'a place that is not told' 'the place of what is wrong' "$front" "$(server web-tells-no-place)" entries
 notices 'a look that withdraws' 'what is kept is as before' "$front" "$(server web-look-withdraws)" looks
 notices 'a method of any name' 'a method' "$front" "$(server web-takes-any-method)" methods
 notices 'a body after HEAD' 'HEAD has no body' "$front" "$(server web-sends-a-body-to-head)" methods

@@ -12,7 +12,7 @@ use Rattle.dq_web.specs.declared.refusal.Refusal.{Refusal}
 use Rattle.dq_web.specs.declared.refusal.Refusal.TheVariants as refusal
 use Rattle.dq_web.specs.declared.replies.Framing.{Framing}
 use Rattle.dq_web.specs.declared.replies.Written.{Written}
-use Rattle.dq_web.specs.Answers.{IsWritten, refusal_reply, misspelled_reply, document_reply, health_reply}
+use Rattle.dq_web.specs.Answers.{IsWritten, refusal_reply, misspelled_reply, unreadable_reply, document_reply, health_reply}
 use Rattle.dq_web.specs.ParsedRequests.{IsAsked, IsQuestion, IsJudged}
 use Rattle.dq_web.specs.Requests.{IsCutOff, IsRequest, is_expecting, is_of_head}
 use Rattle.dq_http.specs.declared.http_state.Answer.{Answer}
@@ -29,6 +29,7 @@ IsRefusal refusal framing written = IsWritten (refusal_reply refusal) framing wr
 abbrev pub IsOwnResponse : ParsedRequest → Framing → Written → Type 0
 IsOwnResponse (asked.Refused refusal) framing written = IsRefusal refusal framing written
 IsOwnResponse (asked.Misspelled word) framing written = IsWritten (misspelled_reply (string_bytes word)) framing written
+IsOwnResponse (asked.Unreadable fault) framing written = IsWritten (unreadable_reply fault) framing written
 IsOwnResponse (asked.Document document) framing written = IsWritten (document_reply document) framing written
 IsOwnResponse asked.Health framing written = IsWritten health_reply framing written
 IsOwnResponse (asked.Question question) framing written = ⊥

@@ -12,7 +12,7 @@ use dq_list::Listed;
 use dq_request::Response;
 use dq_web::{
     Counters, Cut, Framing, Guard, Head, HttpRequest, ParsedRequest, Question, Refusal, Written,
-    answered, ask, cut_off, document, healthy, judge, misspelled, refused,
+    answered, ask, cut_off, document, healthy, judge, misspelled, refused, unreadable,
 };
 use httpdate::HttpDate;
 use std::alloc::{AllocError, Global};
@@ -182,6 +182,9 @@ impl HttpState {
             )?)),
             ParsedRequest::Misspelled(word) => {
                 Ok(Given::Response(misspelled(alloc, word.as_str(), framing)?))
+            }
+            ParsedRequest::Unreadable(fault) => {
+                Ok(Given::Response(unreadable(alloc, fault, framing)?))
             }
             ParsedRequest::Document(which) => Ok(Given::Response(document(alloc, which, framing)?)),
             ParsedRequest::Health => Ok(Given::Response(healthy(alloc, framing)?)),

@@ -1,3 +1,7 @@
+pub mod Facts
+pub mod Members
+pub mod Reading
+pub mod Shorts
 mod Words
 mod Nesting
 mod Numbers

@@ -5,6 +5,8 @@ use Rattle.std.specs.Str.{bytes_eq}
 use Rattle.json.specs.Print.{print}
 use Rattle.dq_config.specs.declared.config.Institution.{Institution}
 use Rattle.dq_dataset.specs.Tree.{ElementList}
+use Rattle.dq_json.specs.declared.json_fault.JsonFault.{JsonFault}
+use Rattle.dq_json.specs.Faults.{fault_text}
 use Rattle.dq_json.specs.Json.{json_tokens}
 use Rattle.dq_request.specs.declared.request.Request.{Request}
 use Rattle.dq_request.specs.declared.request.Request.TheVariants as ask
@@ -58,6 +60,10 @@ refused_reply status word =
 -- a word that no search takes
 abbrev pub misspelled_reply : List ℕ → Reply
 misspelled_reply word = refused_reply status.BadRequest (codes "keyword " ++ word)
+
+-- a body that is not DICOM JSON, and where (RFC 9110 section 15.5.1)
+abbrev pub unreadable_reply : JsonFault → Reply
+unreadable_reply fault = refused_reply status.BadRequest (fault_text fault)
 
 -- what the server answers to no such request
 abbrev pub server_reply : Reply

@@ -7,6 +7,11 @@ use Rattle.percent_encoding.specs.Percent.{percent_decode}
 use Rattle.dq_vr.specs.declared.Tag.{Tag}
 use Rattle.dq_vr.specs.declared.tags.TheConstants.{STUDY_INSTANCE_UID, SERIES_INSTANCE_UID}
 use Rattle.dq_vr.specs.Dictionary.{known_vr}
+use Rattle.dq_dataset.specs.declared.header.Syntax.TheVariants.{Explicit}
+use Rattle.dq_dataset.specs.Canonical.{canonical}
+use Rattle.dq_dataset.specs.Tree.{ElementList}
+use Rattle.dq_json.specs.declared.json_fault.JsonFault.{JsonFault}
+use Rattle.dq_json.specs.JsonReader.{Spells, HasFault}
 use Rattle.dq_json.specs.Keywords.{tag_named}
 use Rattle.dq_request.specs.declared.request.Request.{Request}
 use Rattle.dq_request.specs.declared.request.Request.TheVariants as ask
@@ -15,6 +20,9 @@ use Rattle.dq_request.specs.declared.search.Search.{Search}
 use Rattle.dq_request.specs.declared.search.Subject.{Subject}
 use Rattle.dq_request.specs.declared.search.Subject.TheVariants as subject
 use Rattle.dq_request.specs.Searches.{TakesWords, StopsAt, name_in}
+use Rattle.dq_web.specs.declared.cutting.BodyForm.{BodyForm}
+use Rattle.dq_web.specs.declared.cutting.BodyForm.TheVariants.{Dicom, DicomJson}
+use Rattle.dq_web.specs.declared.cutting.BodyForm.TheVariants as form
 use Rattle.dq_web.specs.declared.cutting.Fields.{Fields}
 use Rattle.dq_web.specs.declared.cutting.Head.{Head}
 use Rattle.dq_web.specs.declared.cutting.HttpRequest.{HttpRequest}
@@ -156,23 +164,35 @@ abbrev pub IsBackup : List ℕ → Request → Type 0
 IsBackup body (ask.Backup path) = (string_bytes path ≡ body) × IsTrue (list_all is_printable body)
 IsBackup body request = ⊥
 
+-- the octets of an entry's data set, by a body of this form: its own, or those of the data set that it spells as DICOM
+-- JSON (PS3.18 annex F)
+abbrev pub AreEntryOctets : BodyForm → List ℕ → List ℕ → Type 0
+AreEntryOctets Dicom body octets = octets ≡ body
+AreEntryOctets DicomJson body octets = (d : ElementList) × Spells body d × (octets ≡ canonical Explicit d)
+AreEntryOctets form.Other body octets = ⊥
+
+-- an entry is to be kept
+abbrev pub Scheduling : List ℕ → BodyForm → List ℕ → Request → Type 0
+Scheduling name by body request =
+    (octets : List ℕ) × AreEntryOctets by body octets × (request ≡ ask.Schedule name octets)
+
 -- what POST asks of a resource
-abbrev pub Posting : Resource → List ℕ → Request → Type 0
-Posting (Worklist name) body request = request ≡ ask.Schedule name.now body
-Posting Backup body request = IsBackup body request
-Posting resource body request = ⊥
+abbrev pub Posting : Resource → BodyForm → List ℕ → Request → Type 0
+Posting (Worklist name) by body request = Scheduling name.now by body request
+Posting Backup by body request = IsBackup body request
+Posting resource by body request = ⊥
 
 -- what DELETE asks of a resource
 abbrev pub Deleting : Resource → Request → Type 0
 Deleting (Entry name id) request = request ≡ ask.Withdraw name.now (percent_decode id.now)
 Deleting resource request = ⊥
 
-abbrev pub Asks : Method → Resource → List ℕ → List ℕ → Request → Type 0
-Asks Get resource query body request = Looking resource query request
-Asks method.Head resource query body request = Looking resource query request
-Asks Post resource query body request = Posting resource body request
-Asks Delete resource query body request = Deleting resource request
-Asks Other resource query body request = ⊥
+abbrev pub Asks : Method → Resource → List ℕ → BodyForm → List ℕ → Request → Type 0
+Asks Get resource query by body request = Looking resource query request
+Asks method.Head resource query by body request = Looking resource query request
+Asks Post resource query by body request = Posting resource by body request
+Asks Delete resource query by body request = Deleting resource request
+Asks Other resource query by body request = ⊥
 
 -- what a search found is answered as JSON, which is accepted (RFC 9110 section 12.5.1)
 abbrev pub IsAccepted : Request → Fields → Type 0
@@ -188,6 +208,29 @@ IsMisspelledAt resource query part =
 abbrev pub IsLooked : Resource → Fields → List ℕ → Wanted → Type 0
 IsLooked resource fields query (wanted.Request request) = Looking resource query request × IsAccepted request fields
 IsLooked resource fields query (wanted.Misspelled part) = IsMisspelledAt resource query (string_bytes part)
+IsLooked resource fields query (wanted.Unreadable fault) = ⊥
+
+-- a body that is to be DICOM JSON, and is none for this reason
+abbrev pub IsUnreadableEntry : BodyForm → List ℕ → JsonFault → Type 0
+IsUnreadableEntry DicomJson body fault = HasFault body fault
+IsUnreadableEntry by body fault = ⊥
+
+-- only one for the worklist is
+abbrev pub IsUnreadableAt : Resource → BodyForm → List ℕ → JsonFault → Type 0
+IsUnreadableAt (Worklist name) by body fault = IsUnreadableEntry by body fault
+IsUnreadableAt resource by body fault = ⊥
+
+-- what POST comes to
+abbrev pub IsPosted : Resource → BodyForm → List ℕ → Wanted → Type 0
+IsPosted resource by body (wanted.Request request) = Posting resource by body request
+IsPosted resource by body (wanted.Misspelled part) = ⊥
+IsPosted resource by body (wanted.Unreadable fault) = IsUnreadableAt resource by body fault
+
+-- what it comes to at the worklist
+abbrev pub IsEntryPosted : List ℕ → BodyForm → List ℕ → Wanted → Type 0
+IsEntryPosted name by body (wanted.Request request) = Scheduling name by body request
+IsEntryPosted name by body (wanted.Misspelled part) = ⊥
+IsEntryPosted name by body (wanted.Unreadable fault) = IsUnreadableEntry by body fault
 
 abbrev pub IsGet : Method → Type 0
 IsGet Get = Unit {0}
@@ -197,9 +240,11 @@ IsGet by = ⊥
 -- what a head and a body come to
 abbrev pub IsWanted : Aim → Fields → List ℕ → Wanted → Type 0
 IsWanted aim fields body (wanted.Request request) =
-    Asks aim.method aim.resource aim.query.now body request × IsAccepted request fields
+    Asks aim.method aim.resource aim.query.now fields.body_form body request × IsAccepted request fields
 IsWanted aim fields body (wanted.Misspelled part) =
     IsGet aim.method × IsMisspelledAt aim.resource aim.query.now (string_bytes part)
+IsWanted aim fields body (wanted.Unreadable fault) =
+    (aim.method ≡ Post) × IsUnreadableAt aim.resource fields.body_form body fault
 
 -- whose key opens a request: that of the institution which it names, or the operator's
 abbrev pub owner_of_request : Request → List ℕ
@@ -279,7 +324,7 @@ pub record IsQuestion (guard : Guard) (request : HttpRequest) (question : Questi
   pub aim : Aim
   pub let_in : IsLetIn guard request.head aim
   pub opened : IsOpened guard.keys (owner_of aim.resource) (option_copied request.head.fields.authorization)
-  pub asks : Asks aim.method aim.resource aim.query.now request.body.now question.asked
+  pub asks : Asks aim.method aim.resource aim.query.now request.head.fields.body_form request.body.now question.asked
   pub wish : question.wish ≡ wish_of request.head.fields aim.query.now
   pub accepted : IsAccepted question.asked request.head.fields
 
@@ -290,6 +335,14 @@ pub record IsMisspelled (guard : Guard) (request : HttpRequest) (word : List ℕ
   pub opened : IsOpened guard.keys (owner_of aim.resource) (option_copied request.head.fields.authorization)
   pub by_get : IsGet aim.method
   pub at : IsMisspelledAt aim.resource aim.query.now word
+
+-- The body of POST is to be DICOM JSON, and is none for this reason.
+pub record IsUnreadable (guard : Guard) (request : HttpRequest) (fault : JsonFault) : Type 0 where
+  pub aim : Aim
+  pub let_in : IsLetIn guard request.head aim
+  pub opened : IsOpened guard.keys (owner_of aim.resource) (option_copied request.head.fields.authorization)
+  pub by_post : aim.method ≡ Post
+  pub at : IsUnreadableAt aim.resource request.head.fields.body_form request.body.now fault
 
 -- where a document of the page stands
 abbrev pub document_resource : Document → Resource
@@ -302,6 +355,7 @@ abbrev pub IsAsked : Guard → HttpRequest → ParsedRequest → Type 0
 IsAsked guard request (asked.Question question) = IsQuestion guard request question
 IsAsked guard request (asked.Refused refusal) = Unit {0}
 IsAsked guard request (asked.Misspelled word) = IsMisspelled guard request (string_bytes word)
+IsAsked guard request (asked.Unreadable fault) = IsUnreadable guard request fault
 IsAsked guard request (asked.Document document) =
     (aim : Aim) × IsLetIn guard request.head aim × (aim.resource ≡ document_resource document)
 IsAsked guard request asked.Health = (aim : Aim) × IsLetIn guard request.head aim × (aim.resource ≡ Health)
@@ -325,11 +379,11 @@ IsAtPath request path = (host : List ℕ) × (text : List ℕ) × (query : List 
 abbrev pub IsCall : HttpRequest → List ℕ → List ℕ → Type 0
 IsCall request word path = IsAtPath request path × (request.head.method.now ≡ word)
 
--- POST of a body at the worklist of an institution, which is to be scheduled there
+-- POST of an entry at the worklist of an institution, which is to be scheduled there
 abbrev pub IsScheduling : HttpRequest → List ℕ → List ℕ → Type 0
 IsScheduling request institution octets =
     IsCall request (codes "POST") (codes "/" ++ beneath institution (codes "worklist"))
-    × (octets ≡ request.body.now)
+    × AreEntryOctets request.head.fields.body_form request.body.now octets
 
 -- DELETE of an entry of that worklist, which is to be taken away there
 abbrev pub IsWithdrawing : HttpRequest → List ℕ → List ℕ → Type 0

@@ -11,7 +11,7 @@ use Rattle.dq_web.specs.declared.replies.Kind.{Kind}
 use Rattle.dq_web.specs.declared.replies.Kind.TheVariants as kind
 use Rattle.dq_web.specs.declared.replies.Reply.{Reply}
 use Rattle.dq_web.specs.declared.status.Status.{Status}
-use Rattle.dq_web.specs.declared.status.Status.TheVariants.{Done, Created, NoContent, BadRequest, Unauthorized, Forbidden, NotFound, MethodNotAllowed, NotAcceptable, RequestTimeout, Conflict, TooLarge, Misdirected, HeadTooLarge, ServerError, NotImplemented, Unavailable, Full}
+use Rattle.dq_web.specs.declared.status.Status.TheVariants.{Done, Created, NoContent, BadRequest, Unauthorized, Forbidden, NotFound, MethodNotAllowed, NotAcceptable, RequestTimeout, Conflict, TooLarge, UnsupportedMediaType, Misdirected, HeadTooLarge, ServerError, NotImplemented, Unavailable, Full}
 
 -- the status code and the reason phrase (RFC 9110 section 15; of 507 RFC 4918 section 11.5)
 abbrev pub status_line : Status → List ℕ
@@ -27,6 +27,7 @@ status_line NotAcceptable = codes "406 Not Acceptable"
 status_line RequestTimeout = codes "408 Request Timeout"
 status_line Conflict = codes "409 Conflict"
 status_line TooLarge = codes "413 Content Too Large"
+status_line UnsupportedMediaType = codes "415 Unsupported Media Type"
 status_line Misdirected = codes "421 Misdirected Request"
 status_line HeadTooLarge = codes "431 Request Header Fields Too Large"
 status_line ServerError = codes "500 Internal Server Error"
@@ -46,6 +47,7 @@ refusal_status refusal.Path = NotFound
 refusal_status (refusal.Method methods) = MethodNotAllowed methods
 refusal_status refusal.Key = Unauthorized
 refusal_status refusal.Accept = NotAcceptable
+refusal_status refusal.MediaType = UnsupportedMediaType
 refusal_status refusal.Unsupported = NotImplemented
 refusal_status refusal.Time = RequestTimeout
 
@@ -61,6 +63,7 @@ refusal_word refusal.Path = codes "path"
 refusal_word (refusal.Method methods) = codes "method"
 refusal_word refusal.Key = codes "key"
 refusal_word refusal.Accept = codes "accept"
+refusal_word refusal.MediaType = codes "media type"
 refusal_word refusal.Unsupported = codes "unsupported"
 refusal_word refusal.Time = codes "time"
 
@@ -78,6 +81,7 @@ status_code NotAcceptable = 406
 status_code RequestTimeout = 408
 status_code Conflict = 409
 status_code TooLarge = 413
+status_code UnsupportedMediaType = 415
 status_code Misdirected = 421
 status_code HeadTooLarge = 431
 status_code ServerError = 500

@@ -17,12 +17,12 @@ mod responses;
 mod status;
 
 pub use counters::{Class, Counters, Operations, Service, Turns};
-pub use cutting::{BODY_MOST, Cut, Fields, HEAD_MOST, Head, HttpRequest, cut_off};
+pub use cutting::{BODY_MOST, BodyForm, Cut, Fields, HEAD_MOST, Head, HttpRequest, cut_off};
 pub use guard::Guard;
 pub use keys::{KeyEntry, Keys, KeysFault, OPERATOR};
 pub use parsed_request::{Aim, Document, Method, ParsedRequest, Question, Wish, ask, judge};
 pub use refusal::{Allowed, Refusal};
 pub use replies::{Framing, Written};
 pub use resource::{Resource, resource_of};
-pub use responses::{answered, document, healthy, misspelled, refused};
+pub use responses::{answered, document, healthy, misspelled, refused, unreadable};
 pub use status::Status;

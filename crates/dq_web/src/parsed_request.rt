@@ -3,16 +3,20 @@ ghost use Rattle.std.specs.Prelude.{◌≡◌, ◌==◌, ◌++◌, ◌∷◌, []
 ghost use Rattle.std.specs.List.{list_all, list_any, starts_with};
 ghost use Rattle.std.specs.Str.{bytes_eq};
 ghost use Rattle.percent_encoding.specs.Percent.{percent_decode};
+ghost use Rattle.dq_request.specs.declared.request.Request.TheVariants as ask;
 ghost use Rattle.dq_request.specs.Searches.{TakesWords, StopsAt, name_in};
-ghost use Rattle.dq_web.specs.ParsedRequests.{is_visible, is_printable, is_silent, is_attribute, is_unknown, is_left_out, parts_of, words_among, words_in, uid_key, hundred_of, series_of, images_of, IsSearchAt, owner_of, IsPathAndQuery, IsTarget, IsMethod, IsLooked, IsBackup, Posting, Deleting, IsWanted, has_no_slash, is_plain_segment, is_plain_path, is_page, IsLetIn, IsJudged, is_fuzzy, wish_of, IsAsked};
+ghost use Rattle.dq_web.specs.declared.cutting.BodyForm.TheVariants as form;
+ghost use Rattle.dq_web.specs.declared.parsed_request.Wanted.TheVariants as wanted;
+ghost use Rattle.dq_web.specs.ParsedRequests.{is_visible, is_printable, is_silent, is_attribute, is_unknown, is_left_out, parts_of, words_among, words_in, uid_key, hundred_of, series_of, images_of, IsSearchAt, owner_of, IsPathAndQuery, IsTarget, IsMethod, IsLooked, IsBackup, IsEntryPosted, IsPosted, Deleting, IsWanted, has_no_slash, is_plain_segment, is_plain_path, is_page, IsLetIn, IsJudged, is_fuzzy, wish_of, IsAsked};
 
-use crate::cutting::{Fields, Head, HttpRequest};
+use crate::cutting::{BodyForm, Fields, Head, HttpRequest};
 use crate::guard::Guard;
 use crate::keys::OPERATOR;
 use crate::refusal::{Allowed, Refusal};
 use crate::replies::Framing;
 use crate::resource::{Resource, at_slash, behind, resource_of};
-use dq_json::tag_named;
+use dq_dataset::PackedDataSet;
+use dq_json::{JsonFault, data_set_of, tag_named};
 use dq_list::Listed;
 use dq_request::{Request, Search, Subject};
 use dq_vr::{Tag, lookup, tags};
@@ -56,6 +60,8 @@ pub enum ParsedRequest {
     Refused(Refusal),
     /// A part of its query is no word of a search.
     Misspelled(String),
+    /// Its body is to be DICOM JSON, and is none.
+    Unreadable(JsonFault),
     Document(Document),
     Health,
     Question(Question),
@@ -85,6 +91,8 @@ enum Wanted {
     Request(Request),
     /// The part of the query that is no word of the search.
     Misspelled(String),
+    /// Why the body is not DICOM JSON.
+    Unreadable(JsonFault),
 }
 
 /// Why nothing is asked.
@@ -510,16 +518,58 @@ fn back_up(alloc: Global, path: &[u8]) -> Result<Request, Unasked>
     }
 }
 
-/// Returns the request that POST makes.
-fn post_at(alloc: Global, resource: Resource<'_>, body: &[u8]) -> Result<Request, Unasked>
-    ensures { IfOk result (Posting resource.entry body.now) }
+/// An order to keep an entry, whose data set has these octets.
+fn schedule(alloc: Global, name: &str, octets: Listed<u8>) -> Result<Wanted, Unasked>
+    ensures { IfOk result (λ it. it ≡ wanted.Request (ask.Schedule name.now octets)) }
+{
+    Ok(Wanted::Request(Request::Schedule {
+        institution: Listed::copy_of(alloc, name.as_bytes())?,
+        octets,
+    }))
+}
+
+/// An order to keep the entry that a body spells as DICOM JSON.
+fn schedule_json(alloc: Global, name: &str, body: &[u8]) -> Result<Wanted, Unasked>
+    ensures { IfOk result (IsEntryPosted name.now form.DicomJson body.now) }
+{
+    match data_set_of(alloc, body) {
+        Ok(data_set) => {
+            let packed = PackedDataSet::new(alloc, &data_set)?;
+            schedule(alloc, name, packed.into_octets())
+        }
+        Err(JsonFault::NoMemory) => Err(Unasked::NoMemory),
+        Err(fault) => Ok(Wanted::Unreadable(fault)),
+    }
+}
+
+/// What POST at the worklist comes to.
+fn post_entry(
+    alloc: Global,
+    name: &str,
+    form: BodyForm,
+    body: &[u8],
+) -> Result<Wanted, Unasked>
+    ensures { IfOk result (IsEntryPosted name.now form body.now) }
+{
+    match form {
+        BodyForm::Dicom => schedule(alloc, name, Listed::copy_of(alloc, body)?),
+        BodyForm::DicomJson => schedule_json(alloc, name, body),
+        BodyForm::Other => Err(Unasked::Refused(Refusal::MediaType)),
+    }
+}
+
+/// What POST comes to.
+fn post_at(
+    alloc: Global,
+    resource: Resource<'_>,
+    form: BodyForm,
+    body: &[u8],
+) -> Result<Wanted, Unasked>
+    ensures { IfOk result (IsPosted resource.entry form body.now) }
 {
     match resource {
-        Resource::Worklist(name) => Ok(Request::Schedule {
-            institution: Listed::copy_of(alloc, name.as_bytes())?,
-            octets: Listed::copy_of(alloc, body)?,
-        }),
-        Resource::Backup => back_up(alloc, body),
+        Resource::Worklist(name) => post_entry(alloc, name, form, body),
+        Resource::Backup => Ok(Wanted::Request(back_up(alloc, body)?)),
         _ => Err(Unasked::Refused(Refusal::Path)),
     }
 }
@@ -550,7 +600,7 @@ fn wanted_by(
 {
     match aim.method {
         Method::Get | Method::Head => look_at(alloc, aim.resource, fields, aim.query),
-        Method::Post => Ok(Wanted::Request(post_at(alloc, aim.resource, body)?)),
+        Method::Post => post_at(alloc, aim.resource, fields.body_form, body),
         Method::Delete => Ok(Wanted::Request(delete_at(alloc, aim.resource)?)),
         Method::Other => Err(Unasked::Refused(Refusal::Path)),
     }
@@ -641,14 +691,15 @@ fn answer_for(
                     Ok(ParsedRequest::Question(question_of(asked, wish)))
                 }
                 Wanted::Misspelled(word) => Ok(ParsedRequest::Misspelled(word)),
+                Wanted::Unreadable(fault) => Ok(ParsedRequest::Unreadable(fault)),
             }
         }
     }
 }
 
 /// Returns what a request asks of the server, what else answers it, or why it is refused: a host
-/// that is not the front's, a page of another origin, a path, a method, or a key that does not open
-/// the path.
+/// that is not the front's, a page of another origin, a path, a method, a key that does not open the
+/// path, or a body in a form that is not read.
 pub fn ask(
     alloc: Global,
     guard: &Guard,

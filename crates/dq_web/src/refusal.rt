@@ -34,6 +34,8 @@ pub enum Refusal {
     Key,
     /// The resource at the path is in no form that is accepted.
     Accept,
+    /// The body has another media type than those that are read.
+    MediaType,
     /// The search is not supported.
     Unsupported,
     /// The head or the body did not come in the time that it has.
@@ -68,6 +70,7 @@ impl Refusal {
             Refusal::Method(_) => "method",
             Refusal::Key => "key",
             Refusal::Accept => "accept",
+            Refusal::MediaType => "media type",
             Refusal::Unsupported => "unsupported",
             Refusal::Time => "time",
         }

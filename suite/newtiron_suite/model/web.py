@@ -8,7 +8,7 @@ import re
 import urllib.parse
 from typing import Any
 
-from . import data_sets, json_objects, services
+from . import data_sets, json_objects, json_reading, services
 from .data_sets import Element
 from .dictionary import DICTIONARY
 from .replies import Institution
@@ -41,6 +41,10 @@ LITERAL = ('299 newtiron "The fuzzymatching parameter is not supported. Only lit
 IGNORED = '299 newtiron "An unknown parameter was ignored."'
 # The same where a page has as many answers as it may have.
 FULL = '299 newtiron "The page is full. Additional results can be requested by offset."'
+# The media types under which an entry is sent as a data set: its own, that of any octets, and the
+# one that senders give what they know no type of.
+DATA_SET_TYPES = {"application/dicom", "application/octet-stream",
+                  "application/x-www-form-urlencoded"}
 # The statuses of the refusals of orders.
 REFUSED_ORDERS = {1: 400, 2: 400, 3: 409, 4: 507, 5: 404, 6: 404}
 
@@ -197,11 +201,21 @@ def place_of(path: str) -> Any:
     return (name, match.groups(), methods) if match and name != "*" else ("", (), {})
 
 
-def ranges_in(fields: Any) -> Any:
-    """The media types and their ranges that an Accept names."""
+def ranges_in(fields: Any, name: str = "accept") -> Any:
+    """The media types and their ranges that an Accept names, or another field."""
     return {word.lower() for word in re.split(r"[,; \t]",
-                                              fields.get("accept",
-                                                         ""))} if "accept" in fields else set()
+                                              fields.get(name, ""))} if name in fields else set()
+
+
+def entry_octets(fields: Any, body: bytes) -> bytes | Answer:
+    """The data set of an entry that a body holds, by its media type, or the refusal."""
+    types = ranges_in(fields, "content-type")
+    if DICOM_JSON in types:
+        try:
+            return data_sets.canonical(json_reading.read(body), EXPLICIT)
+        except json_reading.Fault as fault:
+            return refused(400, str(fault))
+    return refused(415, "media type") if types and not types & DATA_SET_TYPES else body
 
 
 def key_in(fields: Any) -> Any:
@@ -282,7 +296,10 @@ class Front:
             return Answer(200, JSON,
                           json.dumps(counted(institution), separators=(",", ":")).encode())
         if subject in ("schedule", "withdraw"):
-            number = services.schedule(records, body) if subject == "schedule" else \
+            octets = entry_octets(fields, body) if subject == "schedule" else b""
+            if isinstance(octets, Answer):
+                return octets
+            number = services.schedule(records, octets) if subject == "schedule" else \
                 services.withdraw(records, urllib.parse.unquote_to_bytes(words[0]))
             if number:
                 return refused(REFUSED_ORDERS[number], number)

@@ -40,7 +40,7 @@ KEY_LINE = re.compile(r"(\*|[A-Z0-9_]{1,16}) ([0-9a-fA-F]{64})")
 SINGLE = {"host", "content-length", "transfer-encoding", "authorization", "origin",
           "sec-fetch-site", "sec-fetch-dest", "expect"}
 # Lists, whose values are joined (RFC 9110 section 5.3).
-LISTS = {"connection", "accept"}
+LISTS = {"connection", "accept", "content-type"}
 SERVICES = {C_ECHO: "echo", C_FIND: "find", C_STORE: "store", N_CREATE: "create", N_SET: "set"}
 OUTCOMES = {2: "accepted", 3: "rejected", 6: "released", 7: "aborted"}
 BOUNDS = (0.001, 0.005, 0.01, 0.05, 0.1, 0.5, 1)

@@ -3,7 +3,7 @@ from collections.abc import Callable
 from pathlib import Path
 from typing import Any
 
-from ..model import web, web_serving
+from ..model import json_reading, web, web_serving
 from ..model.services import Records
 from ..model.web import Answer
 
@@ -42,6 +42,17 @@ def web_pages_of(most: str) -> None:
 def web_refuses_as(status: str) -> None:
     """Orders that are refused have this status."""
     web.REFUSED_ORDERS = dict.fromkeys(web.REFUSED_ORDERS, int(status))
+
+
+def web_reads_no_json() -> None:
+    """An entry is a data set, whatever its media type is."""
+    web.entry_octets = lambda _, body: body
+
+
+def web_tells_no_place() -> None:
+    """A refusal of JSON names no attribute."""
+    right = json_reading.broken
+    json_reading.broken = lambda rule, _: right(rule, None)
 
 
 def web_look_withdraws() -> None:

@@ -5,5 +5,5 @@ use Rattle.dq_web.proofs.laws.a_question_has_its_key.Goals as goal
 
 pub returns : goal.returns
 returns c guard request question shut asked =
-    let owner = Asks-owner asked.aim.method asked.aim.resource asked.aim.query.now request.body.now question.asked asked.asks in
+    let owner = Asks-owner asked.aim.method asked.aim.resource asked.aim.query.now request.head.fields.body_form request.body.now question.asked asked.asks in
     shut (subst (λ (name : List ℕ). IsOpened guard.keys name (option_copied request.head.fields.authorization)) (sym owner) asked.opened)
