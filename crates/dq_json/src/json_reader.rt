@@ -281,8 +281,8 @@ fn elements_of(
 {
     let mut elements = Vec::new(alloc);
     let mut last = None;
-    for (name, attribute) in members {
-        let element = element_of(alloc, levels, last, name, attribute)?;
+    for member in members {
+        let element = element_of(alloc, levels, last, member.0, &member.1)?;
         last = Some(element.tag);
         elements.push(element)?;
     }

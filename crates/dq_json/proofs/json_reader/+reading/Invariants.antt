@@ -28,7 +28,7 @@ abbrev pub invariant-data_sets_of-loop-item : goal.invariant-data_sets_of-loop-i
 invariant-data_sets_of-loop-item l =
     ItemsLeft (data_set_in l.levels (Some l.tag)) l.items l.data_sets.items l.item-index × AreItems l.levels (items_of l.data_sets.items)
 
-abbrev pub invariant-elements_of-loop-name : goal.invariant-elements_of-loop-name
-invariant-elements_of-loop-name l =
-    ElementsLeft (reader_in l.levels) l.members l.elements.items l.last l.name-index
+abbrev pub invariant-elements_of-loop-member : goal.invariant-elements_of-loop-member
+invariant-elements_of-loop-member l =
+    ElementsLeft (reader_in l.levels) l.members l.elements.items l.last l.member-index
     × AreElements l.levels None (as_elements l.elements.items) × (l.last ≡ last_tag None l.elements.items)
