@@ -21,29 +21,29 @@ use Rattle.dq_json.specs.JsonReader.{kept_vr, utf8_mark}
 
 plain : (tag : Tag) (known : Option Vr) (vr : Vr) (octets : List ℕ) → known ≡ known_vr tag → IsVrFor known vr → is_sequence (Some vr) ≡ false
     → length octets % 2 ≡ 0 → IsPlain tag (kept_vr known vr) octets
-plain tag None vr octets is fits no even = record {
-  by_dictionary = ap (λ b. if b then SQ else UN) no ∙ ap (λ k. unwrap_or k UN) is;
+plain tag None vr octets is fits plainly even = record {
+  by_dictionary = ap (λ b. if b then SQ else UN) plainly ∙ ap (λ k. unwrap_or k UN) is;
   no_sequence = ap is_sequence (sym is);
   even = even;
 }
-plain tag (Some known) vr octets is fits no even = record {
+plain tag (Some known) vr octets is fits plainly even = record {
   by_dictionary = ap (λ k. unwrap_or k UN) is;
-  no_sequence = ap is_sequence (sym is) ∙ (ap (λ v. is_sequence (Some v)) fits ∙ no);
+  no_sequence = ap is_sequence (sym is) ∙ (ap (λ v. is_sequence (Some v)) fits ∙ plainly);
   even = even;
 }
 
 is_sq : (vr : Vr) → is_sequence (Some vr) ≡ true → vr ≡ SQ
-is_sq SQ yes = refl
-is_sq vr yes = cc
+is_sq SQ nests = refl
+is_sq vr nests = cc
 
 nested : (tag : Tag) (known : Option Vr) (vr : Vr) → known ≡ known_vr tag → IsVrFor known vr → is_sequence (Some vr) ≡ true → IsSequence tag (kept_vr known vr)
-nested tag None vr is fits yes = record {
-  is_sq = ap (λ b. if b then SQ else UN) yes;
+nested tag None vr is fits nests = record {
+  is_sq = ap (λ b. if b then SQ else UN) nests;
   allowed = ap (λ k. is_none k || is_sequence k) (sym is);
 }
-nested tag (Some known) vr is fits yes = record {
-  is_sq = fits ∙ is_sq vr yes;
-  allowed = ap (λ k. is_none k || is_sequence k) (sym is) ∙ (ap (λ v. is_sequence (Some v)) fits ∙ yes);
+nested tag (Some known) vr is fits nests = record {
+  is_sq = fits ∙ is_sq vr nests;
+  allowed = ap (λ k. is_none k || is_sequence k) (sym is) ∙ (ap (λ v. is_sequence (Some v)) fits ∙ nests);
 }
 
 value_is : (levels : ℕ) (tag : Tag) (known : Option Vr) (vr : Vr) (held : Value) → known ≡ known_vr tag → IsVrFor known vr → IsContent levels vr held
@@ -83,7 +83,7 @@ known_set = refl
 
 pub mark_is : IsDataSet utf8_mark
 mark_is = (
-  record { rises = refl; no_delimiter = cc; no_length = cc; group = omega arith; number = omega arith },
+  record { rises = refl; no_delimiter = omega arith; no_length = omega arith; group = omega arith; number = omega arith },
   record { by_dictionary = ap (λ k. unwrap_or k UN) (sym known_set); no_sequence = ap is_sequence known_set; even = refl },
   tt,
 )

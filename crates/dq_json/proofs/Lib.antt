@@ -1,4 +1,5 @@
 pub mod Facts
+pub mod Joined
 pub mod Members
 pub mod Reading
 pub mod Shorts

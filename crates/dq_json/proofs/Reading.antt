@@ -1,15 +1,20 @@
 -- Reading members or items one after the other, as a loop does.
-use Rattle.std.proofs.Common.{◌≡◌, ℕ, zero, suc, ◌+◌, ◌-◌, ◌<◌, ◌≤◌, List, [], ◌∷◌, ◌++◌, length, drop, get_or, Option, Some, None, Result, Ok, Err, refl, sym, ap, ◌∙◌, append_assoc, arith}
+use Rattle.std.proofs.Common.{◌≡◌, ℕ, zero, suc, ◌+◌, ◌-◌, ◌<◌, ◌≤◌, List, [], ◌∷◌, ◌++◌, length, drop, get_or, Option, Some, None, Result, Ok, Err, refl, sym, ap, ◌∙◌, append_assoc, arith, inl, inr, ◌⊎◌}
 use Rattle.std.proofs.lemmas.List.{append-nil, drop_more, drop_all}
 use denote.Bor.{Bor}
 use Rattle.json.specs.declared.value.Value.{Value}
-use Rattle.json.specs.Json.{Json, Items, Members}
+use Rattle.json.specs.Find.{as_object}
+use Rattle.json.specs.Json.{Json, Items, Members, document}
 use Rattle.json.specs.Value.{value_view, items_view, members_view}
 use Rattle.dq_vr.specs.declared.Tag.{Tag}
 use Rattle.dq_dataset.specs.Tree.{ElementList}
 use Rattle.dq_dataset.specs.declared.data_set.Element.{Element}
+use Rattle.dq_dataset.specs.View.{as_elements}
+use Rattle.dq_json.specs.declared.json_fault.Rule.TheVariants as rule
 use Rattle.dq_json.specs.declared.json_fault.JsonFault.{JsonFault}
-use Rattle.dq_json.specs.JsonReader.{◌>>=◌, ItemReader, data_sets_by, element_by, elements_by, reader_in, data_set_in, data_set_by}
+use Rattle.dq_json.specs.declared.json_fault.JsonFault.TheVariants.{NoMemory}
+use Rattle.dq_json.specs.Faults.{broken}
+use Rattle.dq_json.specs.JsonReader.{◌>>=◌, ItemReader, data_sets_by, element_by, elements_by, reader_in, data_set_in, data_set_by, marked, spelled, HasFault}
 
 -- what was read before, and what is still read
 abbrev pub with_front : {X : Type 0} → List X → Result (List X) JsonFault → Result (List X) JsonFault
@@ -104,6 +109,12 @@ module _ {A : Type 0} (deeper : ItemReader) (all : List (Member A)) (done : List
   elements_failed left m lt is e failed =
       elements_at left m lt is ∙ elements_fail deeper done last m.0.now (value_view m.1) (members_view (drop (i + 1) all)) e failed
 
+  pub elements_stopped : ElementsLeft → (m : Member A) → i < length all → m ≡ get_or all i m → (e : JsonFault)
+      → (e ≡ NoMemory) ⊎ (element_by deeper last m.0.now (value_view m.1) ≡ Err e)
+      → (e ≡ NoMemory) ⊎ (elements_by deeper None (members_view all) ≡ Err e)
+  elements_stopped left m lt is e (inl memory) = inl memory
+  elements_stopped left m lt is e (inr failed) = inr (elements_failed left m lt is e failed)
+
   pub elements_ended : ElementsLeft → length all ≤ i → elements_by deeper None (members_view all) ≡ Ok done
   unfolding elements_by
   elements_ended left le =
@@ -121,3 +132,33 @@ by_level (suc levels) place j = refl
 pub level_left : (levels : ℕ) → (levels ≡ 0 → ⊥) → reader_in levels ≡ Some (λ tag. data_set_in (levels - 1) (Some tag))
 level_left zero left = absurd (left refl)
 level_left (suc fewer) left = ap (λ (n : ℕ). Some (λ (tag : Tag). data_set_in n (Some tag))) (omega arith)
+
+-- ---- objects
+
+pub no_object : (levels : ℕ) (place : Option Tag) (j : Json) → None ≡ as_object j → data_set_in levels place j ≡ Err (broken rule.Object place)
+unfolding data_set_by
+no_object levels place j none = by_level levels place j ∙ rw (← none) refl
+
+object_at : (levels : ℕ) (place : Option Tag) (j : Json) (ms : Members) → Some ms ≡ as_object j
+    → data_set_in levels place j ≡ (elements_by (reader_in levels) None ms >>= λ es. Ok (as_elements es))
+unfolding data_set_by
+object_at levels place j ms is = by_level levels place j ∙ rw (← is) refl
+
+pub object_read : (levels : ℕ) (place : Option Tag) (j : Json) (ms : Members) → Some ms ≡ as_object j
+    → (es : List Element) → elements_by (reader_in levels) None ms ≡ Ok es → data_set_in levels place j ≡ Ok (as_elements es)
+object_read levels place j ms is es read = object_at levels place j ms is ∙ rw read refl
+
+pub object_failed : (levels : ℕ) (place : Option Tag) (j : Json) (ms : Members) → Some ms ≡ as_object j
+    → (e : JsonFault) → (e ≡ NoMemory) ⊎ (elements_by (reader_in levels) None ms ≡ Err e) → (e ≡ NoMemory) ⊎ (data_set_in levels place j ≡ Err e)
+object_failed levels place j ms is e (inl memory) = inl memory
+object_failed levels place j ms is e (inr failed) = inr (object_at levels place j ms is ∙ rw failed refl)
+
+-- ---- texts
+
+pub form_fault : (octets : List ℕ) (j : Json) (e : JsonFault) → document octets ≡ Some j
+    → (e ≡ NoMemory) ⊎ (data_set_in 16 None j ≡ Err e) → HasFault octets e
+form_fault octets j e is (inl memory) = inl memory
+form_fault octets j e is (inr failed) = inr (inr (j, is, rw failed refl))
+
+pub spelled_so : (octets : List ℕ) (j : Json) (d m : ElementList) → data_set_in 16 None j ≡ Ok d → m ≡ marked octets d → spelled octets j ≡ Ok m
+spelled_so octets j d m read is = rw (read, is) refl

@@ -1,5 +1,5 @@
 //! Reading data sets from JSON: the DICOM JSON Model (PS3.18 annex F).
-ghost use Rattle.std.specs.Prelude.{◌≡◌, ◌≤◌, ◌<◌, ◌-◌, ◌⊎◌, ℕ, length, codes, Some, None, IfOk, IfErr, IfSome, MatchResult, true};
+ghost use Rattle.std.specs.Prelude.{◌≡◌, ◌≢◌, ◌≤◌, ◌<◌, ◌^◌, ◌-◌, ◌%◌, ◌⊎◌, ℕ, length, codes, Some, None, IfOk, IfErr, IfSome, MatchResult, true};
 ghost use Rattle.json.specs.Json.{document};
 ghost use Rattle.json.specs.Reads.{token_of};
 ghost use Rattle.json.specs.Lex.{tokens};
@@ -20,8 +20,7 @@ use dq_dataset::{DataSet, Element, Value};
 use dq_list::Listed;
 use dq_vr::{Tag, Vr, lookup, tags};
 use hex::FromHex;
-use json::Value as Json;
-use json::{Error, Reader, Scratch, Token};
+use json::{Error, Reader, Scratch, Token, Value as Json};
 use std::alloc::{AllocError, Global};
 
 /// The greatest depth of sequences, where one of the outer data set has depth 1.
@@ -33,7 +32,9 @@ const UTF_8: &[u8] = b"ISO_IR 192";
 /// The tag of eight hexadecimal digits.
 #[tactic(auto, unfolding(crate::specs::JsonReader::tag_in))]
 fn tag_of_digits(name: &str) -> Option<Tag>
-    ensures { result ≡ tag_of_digits name.now }
+    ensures exact { result ≡ tag_of_digits name.now }
+    ensures facts { IfSome result (λ tag. (tag.group ≢ 0xFFFE) × (tag.element ≢ 0)
+        × (tag.group < 2 ^ 16) × (tag.element < 2 ^ 16)) }
 {
     let Ok(octets) = <[u8; 4] as FromHex>::from_hex(name) else {
         return None;
@@ -90,7 +91,11 @@ fn vr_told(known: Option<Vr>, text: &str) -> Option<Vr>
 {
     match known {
         None => vr_spelled(text.as_bytes()),
-        Some(known) => if text == letters(known) { Some(known) } else { None },
+        Some(known) => if text == letters(known) {
+            Some(known)
+        } else {
+            None
+        },
     }
 }
 
@@ -146,12 +151,7 @@ fn padded(alloc: Global, vr: Vr, octets: &[u8]) -> Result<Vec<u8>, AllocError>
 }
 
 /// The octets of an attribute that is not a sequence.
-fn octets_for(
-    alloc: Global,
-    tag: Tag,
-    vr: Vr,
-    attribute: &Json<'_>,
-) -> Result<Vec<u8>, JsonFault>
+fn octets_for(alloc: Global, tag: Tag, vr: Vr, attribute: &Json<'_>) -> Result<Vec<u8>, JsonFault>
     ensures exact { Reads (λ v. v.items) result (octets_for tag vr (value_view attribute.now)) }
     ensures even { IfOk result (λ v. length v.items % 2 ≡ 0) }
 {
@@ -345,7 +345,7 @@ fn is_ascii(text: &str) -> bool
 }
 
 fn is_ascii_token(token: Token<'_>) -> bool
-    ensures { result ≡ is_ascii_token (token_of token) }
+    ensures { result ≡ is_ascii_token (token_of token.entry) }
 {
     match token {
         Token::String(text) => is_ascii(text),

@@ -155,7 +155,7 @@ fn groups_in<'a>(value: &Value<'a>) -> Option<NameGroups<'a>>
 /// The octets of a name.
 fn name_text(alloc: Global, groups: NameGroups<'_>) -> Result<Vec<u8>, AllocError>
     ensures { IfOk result (λ octets.
-        octets.items ≡ name_text (groups.0.now, groups.1.now, groups.2.now)) }
+        octets.items ≡ name_text (groups.entry.0.now, groups.entry.1.now, groups.entry.2.now)) }
 {
     let (alphabetic, ideographic, phonetic) = groups;
     let mut octets = Vec::from_slice(alloc, alphabetic.as_bytes())?;
@@ -192,11 +192,7 @@ fn value_text(alloc: Global, vr: Vr, value: &Value<'_>) -> Result<Option<Vec<u8>
 }
 
 /// The octets of values, with a backslash before each.
-fn separated(
-    alloc: Global,
-    vr: Vr,
-    values: &[Value<'_>],
-) -> Result<Option<Vec<u8>>, AllocError>
+fn separated(alloc: Global, vr: Vr, values: &[Value<'_>]) -> Result<Option<Vec<u8>>, AllocError>
     ensures { IfOk result (λ octets.
         option_map (λ v. v.items) octets ≡ separated vr (items_view values.now)) }
 {
@@ -236,10 +232,7 @@ fn texts(alloc: Global, vr: Vr, values: &[Value<'_>]) -> Result<Option<Vec<u8>>,
         return Ok(None);
     }
     match separated(alloc, vr, values)? {
-        Some(octets) => Ok(Some(Vec::from_slice(
-            alloc,
-            behind_first(octets.as_slice()),
-        )?)),
+        Some(octets) => Ok(Some(Vec::from_slice(alloc, behind_first(octets.as_slice()))?)),
         None => Ok(None),
     }
 }
@@ -287,11 +280,7 @@ fn shorts(alloc: Global, values: &[Value<'_>]) -> Result<Option<Vec<u8>>, AllocE
 
 /// The octets of an array of values.
 #[tactic(auto, unfolding(crate::specs::Values::array_octets, crate::specs::Attributes::is_number))]
-fn array_octets(
-    alloc: Global,
-    vr: Vr,
-    values: &[Value<'_>],
-) -> Result<Option<Vec<u8>>, AllocError>
+fn array_octets(alloc: Global, vr: Vr, values: &[Value<'_>]) -> Result<Option<Vec<u8>>, AllocError>
     ensures { IfOk result (λ octets.
         option_map (λ v. v.items) octets ≡ array_octets vr (items_view values.now)) }
 {
@@ -314,11 +303,7 @@ fn is_binary(vr: Vr) -> bool
 
 /// The octets of base64.
 #[tactic(auto, unfolding(crate::specs::Values::binary_octets))]
-fn binary_octets(
-    alloc: Global,
-    vr: Vr,
-    value: &Value<'_>,
-) -> Result<Option<Vec<u8>>, AllocError>
+fn binary_octets(alloc: Global, vr: Vr, value: &Value<'_>) -> Result<Option<Vec<u8>>, AllocError>
     ensures { IfOk result (λ octets.
         option_map (λ v. v.items) octets ≡ binary_octets vr (value_view value.now)) }
 {

@@ -543,12 +543,7 @@ fn schedule_json(alloc: Global, name: &str, body: &[u8]) -> Result<Wanted, Unask
 }
 
 /// What POST at the worklist comes to.
-fn post_entry(
-    alloc: Global,
-    name: &str,
-    form: BodyForm,
-    body: &[u8],
-) -> Result<Wanted, Unasked>
+fn post_entry(alloc: Global, name: &str, form: BodyForm, body: &[u8]) -> Result<Wanted, Unasked>
     ensures { IfOk result (IsEntryPosted name.now form body.now) }
 {
     match form {

@@ -407,11 +407,7 @@ pub fn misspelled(alloc: Global, word: &str, framing: Framing) -> Result<Written
 }
 
 /// The response to an entry that is not the DICOM JSON that it is to be, as octets.
-pub fn unreadable(
-    alloc: Global,
-    fault: JsonFault,
-    framing: Framing,
-) -> Result<Written, AllocError>
+pub fn unreadable(alloc: Global, fault: JsonFault, framing: Framing) -> Result<Written, AllocError>
     ensures { IfOk result (IsWritten (unreadable_reply fault) framing) }
 {
     printed(alloc, &unreadable_reply(alloc, fault)?, framing)

@@ -4,8 +4,8 @@ use Rattle.json.specs.Lex.{tokens}
 use Rattle.dq_json.specs.JsonReader.{is_ascii_token}
 use Rattle.dq_json.proofs.json_reader.has_ascii_strings.Given as goal
 
-abbrev pub invariant-loop-reader : goal.invariant-loop-reader
-invariant-loop-reader l = list_all is_ascii_token (tokens l.text) ≡ list_all is_ascii_token l.reader
+abbrev pub invariant-loop-token : goal.invariant-loop-token
+invariant-loop-token l = list_all is_ascii_token (tokens l.text) ≡ list_all is_ascii_token l.reader
 
-abbrev pub decreases-loop-reader : goal.decreases-loop-reader
-decreases-loop-reader l = length l.reader
+abbrev pub decreases-loop-token : goal.decreases-loop-token
+decreases-loop-token l = length l.reader

@@ -10,7 +10,7 @@ one_spelled text a b (utf8, (j, is_j, spells_a)) (same, (k, is_k, spells_b)) = c
 
 no_fault : (text : List ℕ) (d : ElementList) (fault : JsonFault) → Spells text d → HasFault text fault → fault ≡ NoMemory
 no_fault text d fault spells (inl memory) = memory
-no_fault text d fault (utf8, (j, is_j, spells)) (inr (inl (octet, is, inl (no, at)))) = absurd (no utf8)
+no_fault text d fault (utf8, (j, is_j, spells)) (inr (inl (octet, is, inl (unlike, at)))) = absurd (unlike utf8)
 no_fault text d fault (utf8, (j, is_j, spells)) (inr (inl (octet, is, inr none))) = cc
 no_fault text d fault (utf8, (j, is_j, spells)) (inr (inr (k, is_k, failed))) = cc
 
