@@ -4,3 +4,4 @@ pub mod Json
 pub mod Text
 pub mod Keywords
 pub mod OutermostKeys
+pub mod Spellings
