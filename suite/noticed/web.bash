@@ -23,6 +23,7 @@ notices 'a path that goes up' 'a path that goes up' "$front" "$(server web-paths
 notices 'a connection that stays open' 'it is closed at once' "$front" "$(server web-stays-open)" grammar
 notices 'a body that is awaited without a key' 'no 100 Continue' "$front" "$(server web-bids-anybody-go-on)" grammar
 notices 'a form that is not accepted' 'rs/studies' "$front" "$(server web-gives-what-is-not-accepted)" searches
+notices 'a name that is looked for in UTF-8 only' 'a name as' "$front" "$(server web-asks-in-utf8-only)" searches
 notices 'two hosts' 'a head with two Hosts' "$front" "$(server web-takes-two-hosts)" grammar
 notices 'a front that waits for one' 'slow' "$front" "$(server web-waits-for-one)" slow
 notices 'a front that closes one connection of seven' '100 at once' "$front" "$(server web-closes-each:7)" many

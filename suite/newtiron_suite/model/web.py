@@ -2,6 +2,7 @@
 over the records of the models: for the suite of the web front. It cuts no requests off octets: it
 takes the parts of one.
 """
+import contextlib
 import dataclasses
 import json
 import re
@@ -20,6 +21,9 @@ LEVELS = {"studies": b"STUDY", "series": b"SERIES", "images": b"IMAGE"}
 USUAL_PAGE, LONGEST_PAGE, LONGEST_VALUE = 100, 1000, 65534
 CHARACTER_SET, LEVEL, STEPS = (0x0008, 0x0005), (0x0008, 0x0052), (0x0040, 0x0100)
 LEFT_OUT = ("includefield=", "fuzzymatching=")
+# Text of these is in the record's character set, and there may be several values (PS3.5 sections
+# 6.1.2.2 and 6.2).
+SPELLED = {"LO", "PN", "SH", "UC"}
 JSON, DICOM_JSON, TEXT = "application/json", "application/dicom+json", "text/plain"
 UID = r"([^/]+)"
 # Each path below an institution, with its methods and what it asks for.
@@ -62,6 +66,26 @@ def refused(status: int, code: int | str, **fields: str) -> Answer:
                   fields)
 
 
+def spellings(value: str) -> list[bytes]:
+    """The octets by which a value may be kept: UTF-8, and those of each set of one octet a
+    character that has all of its characters, of which none is from 80H to 9FH."""
+    found = [value.encode()]
+    for codec in json_objects.ONE_OCTET.values():
+        with contextlib.suppress(UnicodeEncodeError):
+            octets = value.encode(codec)
+            found += [octets] * (not re.search(b"[\x80-\x9f]", octets))
+    return list(dict.fromkeys(found))
+
+
+def in_spellings(octets: bytes) -> bytes:
+    """The values of a key, each in each of its spellings; as they are where they are no UTF-8."""
+    try:
+        values = octets.decode().split("\\")
+    except UnicodeDecodeError:
+        return octets
+    return b"\\".join(octets for value in values for octets in spellings(value))
+
+
 def value_of(vr: str, text: str) -> bytes | None:
     """The octets of a value; a value of other than text, UIDs and unsigned shorts cannot be
     given."""
@@ -75,7 +99,7 @@ def value_of(vr: str, text: str) -> bytes | None:
     if vr == "UI":
         # a list of UIDs may have commas (PS3.18 section 8.3.4.1)
         octets = octets.replace(b",", b"\\")
-    return data_sets.padded(vr, octets)
+    return data_sets.padded(vr, in_spellings(octets) if vr in SPELLED else octets)
 
 
 def tag_of(name: str) -> Any:

@@ -176,6 +176,12 @@ def searches(tally: Tally, _: object) -> None:
                              ("steps NORTH PatientID=P1", "refused keyword PatientID=P1")):
             found, end = shown(desk, line)
             tally.check(line, not found and end == answer, end, found)
+        client.send(store_of("1.2.3.1.1", "1.2.3", PatientName="0x4dfc6c6c6572",
+                             SpecificCharacterSet=f"0x{b'ISO_IR 100'.hex()}"))
+        tally.check("an image with a name in Latin-1", client.status() == 0)
+        found, end = shown(desk, "studies SOUTH PatientName=M%C3%BCller")
+        tally.check("a name in Latin-1 is found by its characters", end == "end 1" and
+                    [value_in(one, STUDY_UID) for one in found] == ["1.2.3"], end, found)
         tally.check("a search of nobody", told_to(server.console(), b"studies\n") == b"bad line\n")
         tally.check("searches: it goes on", desk.ask("report").startswith("NORTH studies 3 ")
                     and not server.errors(), server.errors())

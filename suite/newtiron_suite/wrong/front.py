@@ -106,6 +106,11 @@ def web_gives_what_is_not_accepted() -> None:
     web.ranges_in = lambda fields: set()
 
 
+def web_asks_in_utf8_only() -> None:
+    """A name is looked for in UTF-8, whatever set it may be kept in."""
+    web.spellings = lambda value: [value.encode()]
+
+
 def web_waits_for_one() -> None:
     """Others wait until the first connection that is held has ended."""
     @of_front("watched", web_serving.WebService)
