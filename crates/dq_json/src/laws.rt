@@ -17,8 +17,8 @@ pub fn each_element_is_a_member()
         → outermost_keys (json_tokens d) ≡ map (λ e. tag_digits e.tag) (elements_of d) }
 {}
 
-/// The octet of a character in a set stands for it, and for a character without one, but for U+FFFD, no octet
-/// stands.
+/// The octet of a character in a set stands for it. If a character other than U+FFFD has none, no octet of the set
+/// stands for it.
 pub fn octets_stand_for_characters()
     ensures some { (table : CodeTable) (character octet : ℕ) → octet_in table character ≡ Some octet
         → (octet < 0x100) × (character_in table octet ≡ character) }
