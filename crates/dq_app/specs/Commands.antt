@@ -1,5 +1,5 @@
 -- The effects of the command that the words ask for, and the reasons why it stops.
-use Rattle.std.specs.Prelude.{◌≡◌, ℕ, List, length, Option, IfSome}
+use Rattle.std.specs.Prelude.{ℕ, List, length, Option}
 use Rattle.std.specs.Io.KnownBytes.{Appends}
 use Rattle.dq_tables.specs.declared.row.Row.{Row}
 use Rattle.dq_wires.specs.declared.calls.Call.{Call}
@@ -16,8 +16,8 @@ use Rattle.dq_app.specs.Serving.{IsServed, StopsService}
 -- far as these are known.
 module _ {Wired Console : Type 0} (log : Wired → Option (List Call))
     (console_log : Console → Option (List Call)) (held : List ℕ → Option (List ℕ))
-    (stored migrated : List ℕ → Option (List Row))
-    (copied : List ℕ → List (List ℕ) → Option (List Row)) (closed : List Row → Type 0)
+    (stored : List ℕ → Option (List Row)) (migrated : List ℕ → List Row → Type 0)
+    (copied : List ℕ → List (List ℕ) → List Row → Type 0) (closed : List Row → Type 0)
     (input : Option (List ℕ)) (before after : Option (List ℕ)) where
   -- all was done
   abbrev pub IsDone : Command → Type 0
@@ -26,11 +26,11 @@ module _ {Wired Console : Type 0} (log : Wired → Option (List Call))
   IsDone (Loops file) = IsLooped log held file input (Appends before after)
   -- A new store of the old one's rows was made and closed, and a line was printed.
   IsDone (Migrates files) = Appends before after migrated_line
-      × ((kept : List Row) × closed kept × IfSome (migrated files.from) (λ rows. kept ≡ rows))
+      × ((kept : List Row) × closed kept × migrated files.from kept)
   IsDone (Checks checking) = IsChecked held stored before after checking
   -- A new store of the rows that are copied was made and closed, and a line says how many they are.
   IsDone (Copies copying) = (kept : List Row) × closed kept
-      × IfSome (copied copying.from copying.only) (λ rows. kept ≡ rows)
+      × copied copying.from copying.only kept
       × Appends before after (copied_line (length kept))
   IsDone (Exports exporting) = IsExported stored before after closed exporting
 

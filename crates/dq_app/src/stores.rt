@@ -34,13 +34,12 @@ pub trait Stores {
     /// The rows of the store at a path, where they are known: what keeps them is then honest.
     ghost stored: { Self → List ℕ → Option (List Row) };
 
-    /// The rows that the store of the version before at a path has once it is migrated, where they
-    /// are known.
-    ghost migrated: { Self → List ℕ → Option (List Row) };
+    /// The rows are those of the store of the version before at a path, migrated.
+    ghost migrated: { Self → List ℕ → List Row → Type 0 };
 
-    /// The rows that a copy of the store at a path has, of the institutions of some names or of all,
-    /// where they are known.
-    ghost copied: { Self → List ℕ → List (List ℕ) → Option (List Row) };
+    /// The rows are those of a copy of the store at a path: of the institutions of some names, or of
+    /// all where there is no name.
+    ghost copied: { Self → List ℕ → List (List ℕ) → List Row → Type 0 };
 
     /// The state once a store of these rows is closed.
     ghost closed: { Self → List Row → Type 0 };
@@ -67,8 +66,8 @@ pub trait Stores {
     /// The rows of a store of the version before, migrated to a store that is made in a file. The
     /// old store stays.
     fn migrate(&self, alloc: Global, from: &str, to: &str) -> Result<Self::File, OpenError>
-        ensures { IfOk result (λ tables. IfSome (migrated self.now from.now)
-            (λ rows. (Self.File.state tables).rows ≡ rows)) };
+        ensures { IfOk result (λ tables.
+            migrated self.now from.now (Self.File.state tables).rows) };
 
     /// Makes a new store in a file of the rows of another one, and closes it: of the institutions of some
     /// names, or of all where none is named. The answer is how many rows they are. The old store stays.
@@ -80,8 +79,8 @@ pub trait Stores {
         only: &[&str],
     ) -> Result<Result<u64, Unclosed>, OpenError>
         ensures { IfOk result (λ ended. IfOk ended (λ count. (kept : List Row)
-            × closed self.now kept × IfSome
-            (copied self.now from.now (map (λ name. name.now) only.now)) (λ rows. kept ≡ rows)
+            × closed self.now kept
+            × copied self.now from.now (map (λ name. name.now) only.now) kept
             × (length kept ≡ count))) };
 
     /// Copies all rows of a store into a new file at a path, and closes that. The store is only read,

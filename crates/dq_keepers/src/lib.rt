@@ -3,7 +3,6 @@
 
 mod connections;
 mod copy_fault;
-mod file_rows;
 pub mod laws;
 mod memory;
 mod paths;
@@ -11,6 +10,5 @@ mod stores;
 
 pub use connections::{FilesAt, HostTables};
 pub use copy_fault::CopyFault;
-pub use file_rows::RowsInFile;
 pub use memory::RowsInMemory;
 pub use stores::{back_up, close_store, copy_store, create_store, migrate_store, open_store};

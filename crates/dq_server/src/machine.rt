@@ -1,23 +1,24 @@
 //! The parts of the machine that the program needs.
 use dq_app::{Host, OpenError, Stores, Unclosed};
 use dq_keepers::{
-    CopyFault, RowsInFile, RowsInMemory, back_up, close_store, copy_store, create_store,
+    CopyFault, FilesAt, HostTables, RowsInMemory, back_up, close_store, copy_store, create_store,
     migrate_store, open_store,
 };
 use dq_request::BackupError;
 use dq_sql::{MigrateFault, StoreFault};
 use dq_tables::Tables;
-use sqlite::{FileFrom, Wary};
+use sqlite::FileFrom;
 use sqlite_disk::Disk;
 use std::alloc::{AllocError, Global};
+use std::marker::PhantomData;
 
-/// The machine that the program runs on.
-#[derive(Clone, Copy)]
-pub struct Machine<'a> {
+/// The machine that the program runs on. `S` says what the files of a store hold on it.
+pub struct Machine<'a, S> {
     pub rt: &'a HostRuntime,
+    pub files: PhantomData<S>,
 }
 
-impl Alloc for Machine<'_> {
+impl<S> Alloc for Machine<'_, S> {
     type A = Global;
 
     fn alloc(&self) -> Global {
@@ -25,7 +26,7 @@ impl Alloc for Machine<'_> {
     }
 }
 
-impl Host for Machine<'_> {
+impl<S> Host for Machine<'_, S> {
     fn runtime(&self) -> &HostRuntime {
         self.rt
     }
@@ -57,24 +58,27 @@ fn backup_error(fault: CopyFault) -> BackupError {
     }
 }
 
-impl Stores for Machine<'_> {
-    ghost use Rattle.std.specs.Prelude.{None};
+impl<S: FilesAt> Stores for Machine<'_, S> {
+    ghost use Rattle.std.specs.Prelude.{◌≡◌, None};
+    ghost use Rattle.sqlite_wal.specs.Files.{image_at};
     ghost use Rattle.dq_keepers.specs.Closing.{IsClosed};
+    ghost use Rattle.dq_keepers.specs.Contents.{AreCopied, AreMigrated};
     ghost use Rattle.dq_keepers.proofs.Honest.{rows_in_memory_are_honest};
 
     type Memory = RowsInMemory;
 
-    type File = RowsInFile;
+    type File = HostTables<S>;
 
-    // Known here is only what holds whatever a disk does. What files hold is known as far as their
-    // disk returns what was written, which the clauses of `dq_keepers` say.
+    // Known here is only what holds whatever a disk does.
     ghost stored = { λ _ _. None };
 
-    ghost migrated = { λ _ _. None };
+    ghost migrated = { λ _ from kept. from ≡ S.path
+        → AreMigrated ⟦<FileFrom<S> as Disk>⟧ (image_at S.Start) kept };
 
-    ghost copied = { λ _ _ _. None };
+    ghost copied = { λ _ from names kept. from ≡ S.path
+        → AreCopied ⟦<FileFrom<S> as Disk>⟧ (image_at S.Start) names kept };
 
-    ghost closed = { λ _ rows. IsClosed ⟦<FileFrom<Wary> as Disk>⟧ rows };
+    ghost closed = { λ _ rows. IsClosed ⟦<FileFrom<S> as Disk>⟧ rows };
 
     fn memory(&self, alloc: Global) -> Result<Self::Memory, OpenError> {
         match RowsInMemory::new(alloc) {
@@ -85,21 +89,21 @@ impl Stores for Machine<'_> {
 
     fn new_store(&self, alloc: Global, path: &str) -> Result<Self::File, OpenError> {
         match create_store(self.rt, alloc, path) {
-            Ok(tables) => Ok(RowsInFile { tables }),
+            Ok(tables) => Ok(tables),
             Err(fault) => Err(open_error(fault)),
         }
     }
 
     fn store(&self, alloc: Global, path: &str) -> Result<Self::File, OpenError> {
         match open_store(self.rt, alloc, path) {
-            Ok(tables) => Ok(RowsInFile { tables }),
+            Ok(tables) => Ok(tables),
             Err(fault) => Err(open_error(fault)),
         }
     }
 
     fn migrate(&self, alloc: Global, from: &str, to: &str) -> Result<Self::File, OpenError> {
         match migrate_store(self.rt, alloc, from, to) {
-            Ok(tables) => Ok(RowsInFile { tables }),
+            Ok(tables) => Ok(tables),
             Err(fault) => Err(migrate_error(fault)),
         }
     }
@@ -111,7 +115,7 @@ impl Stores for Machine<'_> {
         to: &str,
         only: &[&str],
     ) -> Result<Result<u64, Unclosed>, OpenError> {
-        match copy_store::<Wary>(self.rt, alloc, from, to, only) {
+        match copy_store::<S>(self.rt, alloc, from, to, only) {
             Ok(Ok(count)) => Ok(Ok(count)),
             Ok(Err(_)) => Ok(Err(Unclosed)),
             Err(fault) => Err(open_error(fault)),
@@ -124,14 +128,14 @@ impl Stores for Machine<'_> {
         tables: &mut Self::File,
         path: &str,
     ) -> Result<(), BackupError> {
-        match back_up(self.rt, alloc, &mut tables.tables, path) {
+        match back_up(self.rt, alloc, tables, path) {
             Ok(()) => Ok(()),
             Err(fault) => Err(backup_error(fault)),
         }
     }
 
     fn close(&self, tables: Self::File) -> Result<(), Unclosed> {
-        match close_store(tables.tables) {
+        match close_store(tables) {
             Ok(()) => Ok(()),
             Err(_) => Err(Unclosed),
         }

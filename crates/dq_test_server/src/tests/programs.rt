@@ -89,9 +89,9 @@ impl Stores for Bench<'_> {
 
     ghost stored = { λ _ _. None };
 
-    ghost migrated = { λ _ _. None };
+    ghost migrated = { λ _ _ _. Unit {0} };
 
-    ghost copied = { λ _ _ _. None };
+    ghost copied = { λ _ _ _ _. Unit {0} };
 
     ghost closed = { λ _ _. Unit {0} };
 
