@@ -1,20 +1,18 @@
 //! Connections that come in, served.
-ghost use Rattle.std.specs.Prelude.{◌≡◌, List, [], None, option_map, IfErr, IfSome, OnOk, IfOk};
+ghost use Rattle.std.specs.Prelude.{◌≡◌, [], None, option_map, IfErr, OnOk, IfOk};
 ghost use Rattle.std.specs.Duration.{as_nanos};
 ghost use Rattle.std.specs.Option.{option_copied};
 ghost use Rattle.std.specs.Io.KnownBytes.{Appends};
-ghost use Rattle.dq_config.specs.declared.config.Institution.{Institution};
 ghost use Rattle.dq_core.specs.ServerView.{Refines};
 ghost use Rattle.dq_wires.specs.ServerSteps.{Moves, Fails};
 ghost use Rattle.dq_wires.specs.Turns.{TurnsWent, TurnsCut};
-ghost use Rattle.dq_cli.specs.CommandLine.{place_asked, clients_of, serving_in, web_front_in};
+ghost use Rattle.dq_cli.specs.CommandLine.{clients_of, serving_in, web_front_in};
 ghost use Rattle.dq_captures.specs.Reports.{names_of};
 ghost use Rattle.dq_captures.specs.Surroundings.{BreaksOff};
-ghost use Rattle.dq_tables.specs.declared.row.Row.{Row};
-ghost use Rattle.dq_app.specs.Program.{IsConfigured, IsInStore, rows_at, ClosesAt};
+ghost use Rattle.dq_app.specs.Program.{AsFarAsHonest};
 ghost use Rattle.dq_console.specs.ServiceProgress.{AreHonest};
 ghost use Rattle.dq_app.specs.Rounds.{RoundsWent, RoundsCut, Beside, BesideCut};
-ghost use Rattle.dq_app.specs.Serving.{ready_text, turn_count, limit_of, nanoseconds, AreLimits, ListensAs, IsUncalled, ArePlain, ArePlainTo, IsListenError, Served, ServedUpTo, EndsService, StopsService};
+ghost use Rattle.dq_app.specs.Serving.{ready_text, turn_count, limit_of, nanoseconds, AreLimits, ListensAs, IsUncalled, ArePlain, ArePlainTo, IsListenError, Served, ServedUpTo, EndsService, IsServed, StopsService};
 
 use crate::backup::OfFiles;
 use crate::network::{Entrance, Listening, Logging, Network, connections_of, limit_of};
@@ -28,7 +26,7 @@ use dq_config::Institution;
 use dq_console::{Backups, Console, OfMemory};
 use dq_core::Server;
 use dq_tables::Tables;
-use dq_wires::laws::{calls_are_a_serving, servings_are_answered};
+use dq_wires::laws::{calls_are_a_serving, servings_are_answered, steps_are_a_history};
 use dq_wires::{Limits, TurnFault, Turner, Wires, turn_all};
 use std::alloc::Global;
 use std::time::Duration;
@@ -385,15 +383,18 @@ pub fn serve_by<N: AllocGlobal + Network, T: Tables + Drop, B: Backups<T>, W: Si
     ensures ready { OnOk result (Appends (W.written output.old) (W.written output.new)
         (ready_text service.entry.port)) }
     ensures flushed { OnOk result (W.is_flushed output.new) }
-    ensures served { AreHonest T.state → IfOk result (λ tables. Served N.Wired.log N.Console.log
+    ensures served { IfOk result (λ tables. (T.state tables).honest →
+        (T.state server.tables).honest × Served N.Wired.log N.Console.log (AreHonest T.state)
         server.institutions (T.state server.tables).rows (turn_count service.entry.turns)
         (clients_of (serving_in service.entry)) (T.state tables).rows) }
     ensures ends { IfErr result (EndsService (N.may_break network.now) (W.may_fail output.old)
         (W.written output.old) (W.written output.new) service.entry.port (λ stop.
-        AreHonest T.state → ServedUpTo N.Wired.log N.Console.log (N.may_break network.now)
-        server.institutions (T.state server.tables).rows (turn_count service.entry.turns)
-        (clients_of (serving_in service.entry)) stop)) }
+        AsFarAsHonest T.state ((T.state server.tables).honest × ServedUpTo N.Wired.log
+        N.Console.log (AreHonest T.state) (N.may_break network.now) server.institutions
+        (T.state server.tables).rows (turn_count service.entry.turns)
+        (clients_of (serving_in service.entry)) stop))) }
 {
+    steps_are_a_history::<T>();
     calls_are_a_serving::<T>();
     servings_are_answered::<T>();
     let alloc = network.alloc();
@@ -430,20 +431,14 @@ pub fn serve<Rt: AllocGlobal + Folder + Stores + Network, W: Sink>(
     service: Service<'_>,
     output: &mut W,
 ) -> Result<(), Stop>
-    ensures ready { OnOk result (Appends (W.written output.old) (W.written output.new)
-        (ready_text service.entry.port)) }
+    ensures done { OnOk result (IsServed Rt.Wired.log Rt.Console.log Rt.File.state (Rt.held rt.now)
+        (Rt.stored rt.now) (W.written output.old) (W.written output.new) (serving_in service.entry)
+        (Rt.closed rt.now)) }
     ensures flushed { OnOk result (W.is_flushed output.new) }
-    ensures served { OnOk result ((institutions : List Institution)
-        × IsConfigured (Rt.held rt.now) (option_copied service.entry.config) institutions
-        × IfSome (rows_at (Rt.stored rt.now) (place_asked service.entry.keeper)) (λ rows.
-        (kept : List Row) × Served Rt.Wired.log Rt.Console.log institutions rows (turn_count service.entry.turns)
-        (clients_of (serving_in service.entry)) kept
-        × (IsInStore (place_asked service.entry.keeper) → Rt.closed rt.now kept))) }
-    ensures closed { OnOk result (ClosesAt (place_asked service.entry.keeper) (Rt.closed rt.now)
-        (λ _. Unit {0})) }
-    ensures stops { IfErr result (StopsService Rt.Wired.log Rt.Console.log (Rt.held rt.now) (Rt.stored rt.now)
-        (W.written output.old) (W.written output.new) (serving_in service.entry)
-        (Rt.may_break rt.now) (Rt.may_fail rt.now) (W.may_fail output.old)) }
+    ensures stops { IfErr result (StopsService Rt.Wired.log Rt.Console.log Rt.File.state
+        (Rt.held rt.now) (Rt.stored rt.now) (W.written output.old) (W.written output.new)
+        (serving_in service.entry) (Rt.may_break rt.now) (Rt.may_fail rt.now)
+        (W.may_fail output.old)) }
 {
     let config = configured(rt, service.config)?;
     match service.keeper {

@@ -59,18 +59,17 @@ fn backup_error(fault: CopyFault) -> BackupError {
 }
 
 impl<S: FilesAt> Stores for Machine<'_, S> {
-    ghost use Rattle.std.specs.Prelude.{◌≡◌, None};
+    ghost use Rattle.std.specs.Prelude.{◌≡◌};
     ghost use Rattle.sqlite_wal.specs.Files.{image_at};
     ghost use Rattle.dq_keepers.specs.Closing.{IsClosed};
-    ghost use Rattle.dq_keepers.specs.Contents.{AreCopied, AreMigrated};
+    ghost use Rattle.dq_keepers.specs.Contents.{AreCopied, AreMigrated, AreHeld};
     ghost use Rattle.dq_keepers.proofs.Honest.{rows_in_memory_are_honest};
 
     type Memory = RowsInMemory;
 
     type File = HostTables<S>;
 
-    // Known here is only what holds whatever a disk does.
-    ghost stored = { λ _ _. None };
+    ghost stored = { λ _ path rows. (path ≡ S.path) × AreHeld (image_at S.Start) rows };
 
     ghost migrated = { λ _ from kept. from ≡ S.path
         → AreMigrated ⟦<FileFrom<S> as Disk>⟧ (image_at S.Start) kept };
@@ -142,6 +141,4 @@ impl<S: FilesAt> Stores for Machine<'_, S> {
     }
 
     ghost memory_is_honest = { λ t. rows_in_memory_are_honest t };
-
-    ghost known_is_honest = { λ _ _ _ known. cc };
 }
