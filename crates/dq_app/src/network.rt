@@ -4,6 +4,7 @@ ghost use Rattle.std.specs.Option.{option_copied};
 ghost use Rattle.dq_cli.specs.CommandLine.{WebFront, web_front_in};
 ghost use Rattle.dq_web.specs.KeyFiles.{AreSpelled};
 ghost use Rattle.dq_wires.specs.declared.given_up.Limits.{Limits};
+ghost use Rattle.dq_app.specs.Entrances.{IsConsoleAt, IsFrontFor};
 ghost use Rattle.dq_app.specs.Serving.{limit_of};
 
 use crate::server_sockets::{AssociationSockets, ConsoleSockets, Counted, HttpSockets};
@@ -258,6 +259,20 @@ fn keys_of<F: Folder>(alloc: Global, folder: &F, path: &str) -> Result<Keys, Lis
     }
 }
 
+/// The sockets of the console, if there is a path.
+fn console_for(
+    alloc: Global,
+    rt: &HostRuntime,
+    path: Option<&str>,
+) -> Result<Option<SocketWires>, ListenError>
+    ensures { IfOk result (λ console. IsConsoleAt console (option_copied path.entry)) }
+{
+    match path {
+        Some(path) => Ok(Some(console_at(alloc, rt, path)?)),
+        None => Ok(None),
+    }
+}
+
 /// The guard of a web front: the keys of its file, and its host.
 fn guard_of<F: Folder>(alloc: Global, folder: &F, web: Web<'_>) -> Result<Guard, ListenError>
     ensures keys { IfOk result (λ guard. IfSome (F.held folder.now web.entry.keys.now) (λ octets.
@@ -272,13 +287,15 @@ fn guard_of<F: Folder>(alloc: Global, folder: &F, web: Web<'_>) -> Result<Guard,
     Ok(Guard { keys, host })
 }
 
-// The web front of institutions.
+/// The web front of institutions.
 fn front_at<H: Host>(
     alloc: Global,
     host: &H,
     web: Web<'_>,
     institutions: &[Institution],
-) -> Result<HttpServer<SocketWires>, ListenError> {
+) -> Result<HttpServer<SocketWires>, ListenError>
+    ensures { IfOk result (λ front. front.state.guard.host ≡ option_copied web.entry.host) }
+{
     let state = HttpState::new(alloc, guard_of(alloc, host, web)?, institutions)?;
     let rt = host.runtime();
     let Ok(address) = web.address.parse::<IpAddr>() else {
@@ -288,6 +305,21 @@ fn front_at<H: Host>(
     let peers = connections_of(web.peer_connections);
     limit_clients(&mut wires, WEB_QUIET, peers);
     Ok(HttpServer::new(rt, wires, state)?)
+}
+
+/// The web front of institutions, if it is asked for.
+fn front_for<H: Host>(
+    alloc: Global,
+    host: &H,
+    web: Option<Web<'_>>,
+    institutions: &[Institution],
+) -> Result<Option<HttpServer<SocketWires>>, ListenError>
+    ensures { IfOk result (λ front. IsFrontFor front (option_map web_front_in web.entry)) }
+{
+    match web {
+        Some(web) => Ok(Some(front_at(alloc, host, web, institutions)?)),
+        None => Ok(None),
+    }
 }
 
 // Has a rest over sockets end where something may be done on others.
@@ -309,7 +341,9 @@ impl<H: Host> Network for H {
 
     ghost listens = { λ _ _ _ _. Unit {0} };
 
-    ghost admits = { λ _ _ _ _. Unit {0} };
+    // That they come in at the path and the port, and with which keys, no contract of the system says.
+    ghost admits = { λ console http path web.
+        IsConsoleAt console.wires path × IsFrontFor http.front web };
 
     fn listen(&self, alloc: Global, listening: Listening<'_>) -> Result<Self::Wired, ListenError> {
         let Ok(address) = listening.address.parse::<IpAddr>() else {
@@ -334,17 +368,11 @@ impl<H: Host> Network for H {
         institutions: &[Institution],
         wires: &mut Self::Wired,
     ) -> Result<(Self::Console, Self::Http), ListenError> {
-        let console = match entrance.console {
-            Some(path) => Some(console_at(alloc, self.runtime(), path)?),
-            None => None,
-        };
+        let console = console_for(alloc, self.runtime(), entrance.console)?;
         if let Some(console) = &console {
             watch(wires, console)?;
         }
-        let front = match entrance.web {
-            Some(web) => Some(front_at(alloc, self, web, institutions)?),
-            None => None,
-        };
+        let front = front_for(alloc, self, entrance.web, institutions)?;
         if let Some(front) = &front {
             watch(wires, &front.wires)?;
             wires.counted = Some(Counted::new(alloc));
