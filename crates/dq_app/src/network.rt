@@ -323,7 +323,10 @@ fn front_for<H: Host>(
 }
 
 // Has a rest over sockets end where something may be done on others.
-fn watch(sockets: &mut AssociationSockets, others: &SocketWires) -> Result<(), ListenError> {
+fn watch(
+    sockets: &mut AssociationSockets<SocketWires>,
+    others: &SocketWires,
+) -> Result<(), ListenError> {
     match sockets.logged.wires.watch(others) {
         Ok(()) => Ok(()),
         Err(error) => Err(listen_error_of(&error)),
@@ -331,9 +334,9 @@ fn watch(sockets: &mut AssociationSockets, others: &SocketWires) -> Result<(), L
 }
 
 impl<H: Host> Network for H {
-    type Wired = AssociationSockets;
+    type Wired = AssociationSockets<SocketWires>;
 
-    type Console = ConsoleSockets;
+    type Console = ConsoleSockets<SocketWires>;
 
     type Http = HttpSockets;
 

@@ -11,7 +11,8 @@ use dq_request::{Request, Response};
 use dq_tables::Tables;
 use dq_web::{Counters, Service as CountedService};
 use dq_wires::{
-    Called, LogEnd, LoggedWires, ReadTurn, SocketClient, SocketWires, Turner, WireFault, Wires,
+    Called, GivesUp, LogEnd, LoggedWires, ReadTurn, SocketClient, SocketWires, Turner, WireFault,
+    Wires,
 };
 use std::alloc::Global;
 use std::time::{Duration, Instant};
@@ -20,17 +21,18 @@ use std::{fs, io};
 /// The octets of a page of memory.
 const PAGE_OCTETS: u64 = 4096;
 
-/// Sockets whose connections are told of in a log, if there is one, and counted, if that is asked.
+/// Wires whose connections are told of in a log, if there is one, and counted, if that is asked. The
+/// program's are sockets.
 #[derive(Drop)]
-pub struct AssociationSockets {
-    pub logged: LoggedWires<SocketWires, LogEnd>,
+pub struct AssociationSockets<W> {
+    pub logged: LoggedWires<W, LogEnd>,
     pub counted: Option<Counted>,
 }
 
-/// The sockets of the console, if there is one.
+/// The wires of the console, if there is one. The program's are sockets.
 #[derive(Drop)]
-pub struct ConsoleSockets {
-    pub wires: Option<SocketWires>,
+pub struct ConsoleSockets<W> {
+    pub wires: Option<W>,
 }
 
 /// The web front, if there is one.
@@ -130,7 +132,7 @@ impl Counted {
     }
 }
 
-impl AssociationSockets {
+impl<W> AssociationSockets<W> {
     /// Tells the log what was served since this was last asked, and counts it.
     pub fn tell<T: Tables>(&mut self, turner: &mut Turner<T>, clock: &HostRuntime)
         ensures { turner.new ≡ turner.old }
@@ -148,12 +150,10 @@ impl AssociationSockets {
     }
 }
 
-impl Wires for AssociationSockets {
-    ghost use Rattle.std.specs.Prelude.{None};
+impl<W: Wires + GivesUp> Wires for AssociationSockets<W> {
+    ghost log = { λ sockets. W.log sockets.logged.wires };
 
-    ghost log = { λ _. None };
-
-    ghost failed_accepts = { λ sockets. ⟦<SocketWires as Wires>⟧.failed_accepts sockets.logged.wires };
+    ghost failed_accepts = { λ sockets. W.failed_accepts sockets.logged.wires };
 
     fn accept(&mut self) -> Result<Option<usize>, WireFault> {
         self.logged.accept()
@@ -172,7 +172,7 @@ impl Wires for AssociationSockets {
     }
 }
 
-impl<H: Host> Called<H> for AssociationSockets {
+impl<H: Host> Called<H> for AssociationSockets<SocketWires> {
     fn connect(&self, machine: &H) -> Result<SocketClient, WireFault> {
         match self.logged.wires.address() {
             Ok(address) => SocketClient::connect(machine.runtime(), address).or(Err(WireFault)),
@@ -186,7 +186,7 @@ impl<H: Host> Called<H> for AssociationSockets {
     }
 }
 
-impl ConsoleSockets {
+impl ConsoleSockets<SocketWires> {
     /// Whether calls did something in this turn.
     pub fn is_busy(&self) -> bool {
         match &self.wires {
@@ -211,13 +211,13 @@ impl ConsoleSockets {
     }
 }
 
-impl Wires for ConsoleSockets {
-    ghost use Rattle.std.specs.Prelude.{None, option_map, unwrap_or};
+impl<W: Wires> Wires for ConsoleSockets<W> {
+    ghost use Rattle.std.specs.Prelude.{option_map, unwrap_or};
+    ghost use Rattle.std.specs.Option.{option_and_then};
 
-    ghost log = { λ _. None };
+    ghost log = { λ sockets. option_and_then W.log sockets.wires };
 
-    ghost failed_accepts = { λ sockets.
-        unwrap_or (option_map (⟦<SocketWires as Wires>⟧.failed_accepts) sockets.wires) 0 };
+    ghost failed_accepts = { λ sockets. unwrap_or (option_map W.failed_accepts sockets.wires) 0 };
 
     fn accept(&mut self) -> Result<Option<usize>, WireFault> {
         match &mut self.wires {
@@ -251,7 +251,7 @@ impl Wires for ConsoleSockets {
 impl HttpSockets {
     /// The turn of the web front. A request for metrics is answered by the counts of what was served.
     /// The notes go to the log.
-    pub fn attend(&mut self, beside: &mut AssociationSockets, rt: &HostRuntime) {
+    pub fn attend(&mut self, beside: &mut AssociationSockets<SocketWires>, rt: &HostRuntime) {
         let Some(front) = &mut self.front else {
             return;
         };
