@@ -6,7 +6,7 @@ use Rattle.dq_tables.specs.Rows.{of}
 use Rattle.dq_archive.specs.PastArchives.{records_in}
 use Rattle.dq_archive.proofs.PastLookups.{records_now}
 use Rattle.dq_find.specs.Queries.{found_by, keys_outcome}
-use Rattle.dq_find.proofs.search.find_by_keys.Goals as goal
+use Rattle.dq_find.proofs.lazy_answers.find_by_keys.Goals as goal
 
 pub returns-clause-found : goal.returns-clause-found
 unfolding keys_outcome

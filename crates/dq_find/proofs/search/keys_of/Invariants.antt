@@ -1,6 +1,6 @@
 use Rattle.std.proofs.Common.{◌≡◌, ◌++◌, map}
 use Rattle.dq_tables.specs.declared.row.Row.{Row}
-use Rattle.dq_find.proofs.open_search.keys_of.Given as goal
+use Rattle.dq_find.proofs.search.keys_of.Given as goal
 
 abbrev pub invariant-loop-row : goal.invariant-loop-row
 invariant-loop-row l = record {
