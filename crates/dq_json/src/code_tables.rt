@@ -1,6 +1,7 @@
 //! Character sets with one octet a character (PS3.3 section C.12.1.1.2).
 ghost use Rattle.std.specs.Prelude.{◌≡◌};
-ghost use Rattle.dq_json.specs.Text.{table_named, high_half, character_in};
+ghost use Rattle.std.specs.Option.{option_copied};
+ghost use Rattle.dq_json.specs.Text.{registration_number, table_named, high_half, character_in};
 
 /// A set whose octets up to 7FH are the default repertoire's.
 #[derive(Clone, Copy, Debug, PartialEq, Eq)]
@@ -10,6 +11,7 @@ pub enum CodeTable {
     Latin3,
     Latin4,
     Latin5,
+    Latin9,
     Cyrillic,
     Arabic,
     Greek,
@@ -19,38 +21,42 @@ pub enum CodeTable {
 
 impl CodeTable {
     /// The set of a defined term.
-    #[tactic(auto, unfolding(crate::specs::Text::table_named))]
+    #[tactic(auto, unfolding(crate::specs::Text::table_numbered))]
     pub(crate) fn named(term: &[u8]) -> Option<CodeTable>
         ensures { result ≡ table_named term.now }
     {
-        if term == b"ISO_IR 100".as_slice() {
+        let number = registration_number(term)?;
+        if number == b"100".as_slice() {
             return Some(CodeTable::Latin1);
         }
-        if term == b"ISO_IR 101".as_slice() {
+        if number == b"101".as_slice() {
             return Some(CodeTable::Latin2);
         }
-        if term == b"ISO_IR 109".as_slice() {
+        if number == b"109".as_slice() {
             return Some(CodeTable::Latin3);
         }
-        if term == b"ISO_IR 110".as_slice() {
+        if number == b"110".as_slice() {
             return Some(CodeTable::Latin4);
         }
-        if term == b"ISO_IR 148".as_slice() {
+        if number == b"148".as_slice() {
             return Some(CodeTable::Latin5);
         }
-        if term == b"ISO_IR 144".as_slice() {
+        if number == b"203".as_slice() {
+            return Some(CodeTable::Latin9);
+        }
+        if number == b"144".as_slice() {
             return Some(CodeTable::Cyrillic);
         }
-        if term == b"ISO_IR 127".as_slice() {
+        if number == b"127".as_slice() {
             return Some(CodeTable::Arabic);
         }
-        if term == b"ISO_IR 126".as_slice() {
+        if number == b"126".as_slice() {
             return Some(CodeTable::Greek);
         }
-        if term == b"ISO_IR 138".as_slice() {
+        if number == b"138".as_slice() {
             return Some(CodeTable::Hebrew);
         }
-        if term == b"ISO_IR 166".as_slice() {
+        if number == b"166".as_slice() {
             return Some(CodeTable::Thai);
         }
         None
@@ -67,6 +73,7 @@ impl CodeTable {
             CodeTable::Latin3 => &LATIN_3,
             CodeTable::Latin4 => &LATIN_4,
             CodeTable::Latin5 => &LATIN_5,
+            CodeTable::Latin9 => &LATIN_9,
             CodeTable::Cyrillic => &CYRILLIC,
             CodeTable::Arabic => &ARABIC,
             CodeTable::Greek => &GREEK,
@@ -87,6 +94,17 @@ impl CodeTable {
             return NONE;
         }
         self.high_half()[octet as usize - 160]
+    }
+}
+
+/// The registration number in a defined term: 100 in `ISO_IR 100`, and in `ISO 2022 IR 100`, which also
+/// admits code extensions (PS3.3 section C.12.1.1.2).
+pub(crate) fn registration_number(term: &[u8]) -> Option<&[u8]>
+    ensures { option_copied result ≡ registration_number term.now }
+{
+    match term.strip_prefix(b"ISO_IR ".as_slice()) {
+        Some(number) => Some(number),
+        None => term.strip_prefix(b"ISO 2022 IR ".as_slice()),
     }
 }
 
@@ -226,6 +244,21 @@ static LATIN_5: [char; 96] = [
     '\u{e8}', '\u{e9}', '\u{ea}', '\u{eb}', '\u{ec}', '\u{ed}', '\u{ee}', '\u{ef}', '\u{11f}',
     '\u{f1}', '\u{f2}', '\u{f3}', '\u{f4}', '\u{f5}', '\u{f6}', '\u{f7}', '\u{f8}', '\u{f9}',
     '\u{fa}', '\u{fb}', '\u{fc}', '\u{131}', '\u{15f}', '\u{ff}',
+];
+
+/// ISO_IR 203: ISO 8859-15.
+static LATIN_9: [char; 96] = [
+    '\u{a0}', '\u{a1}', '\u{a2}', '\u{a3}', '\u{20ac}', '\u{a5}', '\u{160}', '\u{a7}', '\u{161}',
+    '\u{a9}', '\u{aa}', '\u{ab}', '\u{ac}', '\u{ad}', '\u{ae}', '\u{af}', '\u{b0}', '\u{b1}',
+    '\u{b2}', '\u{b3}', '\u{17d}', '\u{b5}', '\u{b6}', '\u{b7}', '\u{17e}', '\u{b9}', '\u{ba}',
+    '\u{bb}', '\u{152}', '\u{153}', '\u{178}', '\u{bf}', '\u{c0}', '\u{c1}', '\u{c2}', '\u{c3}',
+    '\u{c4}', '\u{c5}', '\u{c6}', '\u{c7}', '\u{c8}', '\u{c9}', '\u{ca}', '\u{cb}', '\u{cc}',
+    '\u{cd}', '\u{ce}', '\u{cf}', '\u{d0}', '\u{d1}', '\u{d2}', '\u{d3}', '\u{d4}', '\u{d5}',
+    '\u{d6}', '\u{d7}', '\u{d8}', '\u{d9}', '\u{da}', '\u{db}', '\u{dc}', '\u{dd}', '\u{de}',
+    '\u{df}', '\u{e0}', '\u{e1}', '\u{e2}', '\u{e3}', '\u{e4}', '\u{e5}', '\u{e6}', '\u{e7}',
+    '\u{e8}', '\u{e9}', '\u{ea}', '\u{eb}', '\u{ec}', '\u{ed}', '\u{ee}', '\u{ef}', '\u{f0}',
+    '\u{f1}', '\u{f2}', '\u{f3}', '\u{f4}', '\u{f5}', '\u{f6}', '\u{f7}', '\u{f8}', '\u{f9}',
+    '\u{fa}', '\u{fb}', '\u{fc}', '\u{fd}', '\u{fe}', '\u{ff}',
 ];
 
 /// ISO_IR 166: TIS 620.

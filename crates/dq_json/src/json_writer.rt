@@ -100,8 +100,8 @@ fn put_items(
 
 /// The JSON of a data set: an object with an attribute for each element, in the order of their tags.
 /// Text is UTF-8, and Specific Character Set says so. ISO_IR 100, 101, 109, 110, 126, 127, 138, 144,
-/// 148 and 166 are converted (PS3.3 section C.12.1.1.2); of all others each octet above 7FH becomes
-/// U+FFFD.
+/// 148, 166 and 203 are converted, also as `ISO 2022 IR` (PS3.3 section C.12.1.1.2); of all others each
+/// octet above 7FH becomes U+FFFD.
 pub fn json_of(alloc: Global, data_set: &DataSet) -> Result<Vec<u8>, AllocError>
     ensures octets { IfOk result (λ v. v.items ≡ print (json_tokens data_set.now)) }
     // It reads back.

@@ -34,7 +34,10 @@ fn repertoire_named(octets: &[u8]) -> Repertoire
     if names.next().is_some() {
         return Repertoire::Other;
     }
-    if name == b"ISO_IR 6".as_slice() || name == b"ISO_IR 192".as_slice() {
+    if name == b"ISO_IR 6".as_slice()
+        || name == b"ISO 2022 IR 6".as_slice()
+        || name == b"ISO_IR 192".as_slice()
+    {
         return Repertoire::Utf8;
     }
     match CodeTable::named(name) {

@@ -28,9 +28,10 @@ CHARACTER_SET = (0x0008, 0x0005)
 # The registrations of PS3.3 table C.12-2, and what Python calls the sets.
 ONE_OCTET = {100: "latin-1", 101: "iso8859-2", 109: "iso8859-3", 110: "iso8859-4",
              126: "iso8859-7", 127: "iso8859-6", 138: "iso8859-8", 144: "iso8859-5",
-             148: "iso8859-9", 166: "tis-620"}
-CODECS = {b"ISO_IR 6": "utf-8", b"ISO_IR 192": "utf-8",
-          **{b"ISO_IR %d" % number: codec for number, codec in ONE_OCTET.items()}}
+             148: "iso8859-9", 166: "tis-620", 203: "iso8859-15"}
+CODECS = {b"ISO_IR 192": "utf-8",
+          **{term % number: codec for term in (b"ISO_IR %d", b"ISO 2022 IR %d")
+             for number, codec in {6: "utf-8", **ONE_OCTET}.items()}}
 
 
 def text(octets: bytes, codec: str) -> str:
