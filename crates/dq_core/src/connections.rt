@@ -81,10 +81,12 @@ impl Connections {
     pub(crate) fn clear(&mut self)
         ensures config { self.new.config ≡ self.old.config }
         ensures newest { self.new.newest ≡ self.old.newest }
+        ensures additions { self.new.additions.logs.items ≡ [] }
     {
         self.places.clear();
         self.slots.clear();
         self.spares.clear();
+        self.additions.logs.clear();
     }
 
     /// There are not too many connections to be counted.
@@ -378,6 +380,7 @@ fn take_log(
     ensures left { additions.new.logs.items ≡ with_log additions.old.logs.items place [] }
     ensures taken { (result ≡ log_at additions.old.logs.items place)
         ⊎ IsUnsearched slots.now (option_copied owner.entry) }
+    ensures begun_anew { IsUnsearched slots.now (option_copied owner.entry) → result ≡ [] }
 {
     let log = additions.take(alloc, place);
     let Some(institution) = owner else {

@@ -188,7 +188,7 @@ impl OpenQuery {
         ensures sent { (state_in T.state archive.new).honest → OnOk result (out.new.items
             ≡ out.old.items ++ rest (open_query_of (records_in T.state archive.old) self)) }
     {
-        self.answers.find(archive, usize::MAX)?;
+        self.answers.find(archive, None)?;
         let count = self.answers.at_hand();
         self.send_pending(archive.alloc, count, out)?;
         let status = self.answers.status();
@@ -213,7 +213,7 @@ impl OpenQuery {
         ensures since { IfOk result (λ query. (left : HeldQuery) → query ≡ Some left
             → left.since ≡ self.since) }
     {
-        self.answers.find(archive, PAGE_LENGTH + 1)?;
+        self.answers.find(archive, Some(PAGE_LENGTH + 1))?;
         if self.answers.at_hand() <= PAGE_LENGTH {
             self.send_rest(archive, out, notes)?;
             return Ok(None);
