@@ -89,7 +89,8 @@ impl SearchCursor {
     {
         match self {
             SearchCursor::Studies(None) => true,
-            SearchCursor::Studies(Some(_)) | SearchCursor::Named(_, _) | SearchCursor::Nothing => false,
+            SearchCursor::Studies(Some(_)) | SearchCursor::Named(_, _) | SearchCursor::Nothing =>
+                false,
         }
     }
 

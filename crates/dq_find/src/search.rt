@@ -89,10 +89,7 @@ fn key_above(keys: &DataSet, tag: Tag) -> &[u8]
 }
 
 /// Some keys, in their order.
-fn key_list(
-    alloc: Global,
-    mut uids: BTreeSet<Vec<u8>>,
-) -> Result<Listed<Listed<u8>>, AllocError>
+fn key_list(alloc: Global, mut uids: BTreeSet<Vec<u8>>) -> Result<Listed<Listed<u8>>, AllocError>
     ensures { IfOk result (λ keys. keys ≡ octets_of_vectors uids.keys) }
 {
     let mut keys = Listed::empty(alloc);

@@ -1,4 +1,4 @@
-use Rattle.std.proofs.Common.{◌≡◌, ◌∙◌, ◌+◌, ◌-◌, Some, None, map, take, drop, refl, sym, ap, arith}
+use Rattle.std.proofs.Common.{◌≡◌, ◌∙◌, ◌+◌, ◌-◌, None, map, take, drop, refl, sym, ap, arith}
 use Rattle.std.specs.List.{filter_map}
 use Rattle.dq_tables.specs.declared.row.Kind.TheVariants.{Study as StudyKind}
 use Rattle.dq_tables.specs.Rows.{row_of}
