@@ -2,7 +2,7 @@
 ghost use Rattle.std.specs.Prelude.{◌≡◌, ◌≤◌, length, option_copied, IfOk};
 ghost use Rattle.dq_wires.specs.Logs.{IfGot, failures_after_accept};
 
-use dq_assoc::Service;
+use dq_assoc::{AssociationEnd, Service};
 use dq_captures::Host;
 use dq_console::Asks;
 use dq_core::{LogEvent, Note, Notes};
@@ -11,7 +11,8 @@ use dq_request::{Request, Response};
 use dq_tables::Tables;
 use dq_web::{Counters, Service as CountedService};
 use dq_wires::{
-    Called, LogEnd, LoggedWires, ReadTurn, SocketClient, SocketWires, Turner, WireFault, Wires,
+    Called, LogEnd, LoggedWires, Progress, ReadTurn, SocketClient, SocketWires, Turner, WireFault,
+    Wires,
 };
 use std::alloc::Global;
 use std::time::{Duration, Instant};
@@ -92,6 +93,16 @@ impl Counted {
         }
     }
 
+    // Counts an association that was rejected, or that ended on the connection of a number.
+    fn count_end(&mut self, end: AssociationEnd, number: u64) {
+        match end {
+            AssociationEnd::Rejected(_) => self.counters.reject(),
+            AssociationEnd::Aborted(..) if self.close(number) => self.counters.abort(),
+            AssociationEnd::Released if self.close(number) => self.counters.release(),
+            AssociationEnd::Aborted(..) | AssociationEnd::Released => {}
+        }
+    }
+
     fn count(&mut self, note: &Note) {
         match &note.noted {
             LogEvent::Accepted { .. } => {
@@ -99,11 +110,9 @@ impl Counted {
                     self.counters.accept();
                 }
             }
-            LogEvent::Rejected { .. } => self.counters.reject(),
-            LogEvent::Aborted { .. } if self.close(note.number) => self.counters.abort(),
-            LogEvent::Released if self.close(note.number) => self.counters.release(),
+            LogEvent::Closed { end, .. } => self.count_end(*end, note.number),
             LogEvent::Ended if self.close(note.number) => self.counters.lose(),
-            LogEvent::Aborted { .. } | LogEvent::Released | LogEvent::Ended => {}
+            LogEvent::Ended => {}
             LogEvent::Served {
                 service,
                 status,
@@ -165,6 +174,10 @@ impl Wires for AssociationSockets {
 
     fn write(&mut self, place: usize, octets: &[u8]) -> Result<usize, WireFault> {
         self.logged.write(place, octets)
+    }
+
+    fn learn(&mut self, place: usize, progress: Progress) {
+        self.logged.learn(place, progress);
     }
 
     fn shut(&mut self, place: usize) -> Result<(), WireFault> {

@@ -8,7 +8,13 @@ use Rattle.dq_dataset.specs.Values.{element_at, element_octets}
 use Rattle.dq_tables.specs.Keys.{sole_item_at}
 use Rattle.dq_assoc.specs.declared.classes.Service.{Service}
 use Rattle.dq_assoc.specs.declared.classes.Service.TheVariants.{WorklistFind}
+use Rattle.dq_pdu.specs.declared.pdu.Request.{Request}
 use Rattle.dq_core.specs.declared.notes.QuerySummary.{QuerySummary}
+use Rattle.dq_core.specs.declared.notes.Titles.{Titles}
+
+-- the titles of a request (PS3.8 section 9.3.2)
+abbrev pub titles_of : Request → Titles
+titles_of request = record { called = request.called; calling = request.calling }
 
 -- so many octets of a value
 abbrev pub noted_most : ℕ

@@ -20,12 +20,12 @@ ghost use Rattle.dq_tables.specs.declared.row.Row.{Row};
 ghost use Rattle.dq_core.specs.declared.slot.Slot.{Slot as TheSlot};
 ghost use Rattle.dq_core.specs.Additions.{log_at, with_log, owner_place};
 ghost use Rattle.dq_core.specs.OpenAssociations.{IsTallied, tally_of_name};
-ghost use Rattle.dq_core.specs.Slots.{IsUnsearched, is_searching, has_slot, has_search, AreHeld, IsHeld, StandsAt, Turned, Took, owner_at, verdict_for, without_association};
+ghost use Rattle.dq_core.specs.Slots.{IsUnsearched, is_searching, has_slot, has_search, titles_at, AreHeld, IsHeld, StandsAt, Turned, Took, owner_at, verdict_for, without_association};
 
 use crate::additions::Additions;
 use crate::event::Reply;
 use crate::fault::Fault;
-use crate::notes::{Notes, PduSummary};
+use crate::notes::{Notes, Titles};
 use crate::open_associations::{OpenAssociations, place_of};
 use crate::slot::{Called, Slot, Taken};
 use dq_archive::Addition;
@@ -127,6 +127,17 @@ impl Connections {
         }
     }
 
+    /// The titles of the request on the connection that is held under a number, once it is whole.
+    pub(crate) fn titles(&self, number: u64) -> Option<Titles>
+        ensures { result ≡ titles_at number self.now }
+    {
+        let place = self.place_of(number)?;
+        match self.slots.get(place) {
+            Some(slot) => slot.titles,
+            None => None,
+        }
+    }
+
     /// Takes the slot with a number out of its place.
     fn remove(&mut self, number: u64, place: usize)
         ensures slots { Updates self.old.slots self.new.slots place None }
@@ -207,12 +218,12 @@ impl Connections {
             return Ok(Reply::Ignored);
         };
         let was_open = slot.institution.is_some();
-        let (owner, taken, heard) = take_piece(alloc, &self.config, &self.tally, slot, piece)?;
-        let close = taken.step.close;
+        let (owner, taken) = take_piece(alloc, &self.config, &self.tally, slot, piece)?;
+        let (close, end) = (taken.step.close, taken.step.end);
         let is_open = stays_open(slot, close);
+        let titles = slot.titles;
         notes.turn_to(number);
-        note_acceptance(notes, slot, heard, was_open);
-        let ending = heard.ending(&taken.step);
+        note_acceptance(notes, slot, was_open);
         let at = owner_place(&self.config, owner);
         let mut log = take_log(alloc, &self.slots, &mut self.additions, at, owner);
         let Some(slot) = self.slots.get_mut(place) else {
@@ -220,7 +231,7 @@ impl Connections {
         };
         let octets = slot.answer(owner, taken, tables, &mut log, notes)?;
         self.additions.put(at, log);
-        notes.close(ending);
+        notes.close(titles, end);
         self.tally.retally(&self.config, owner, was_open, is_open);
         if close {
             self.remove(number, place);
@@ -410,24 +421,26 @@ fn end_association(config: &Config, tally: &mut OpenAssociations, slot: Option<&
 }
 
 /// Notes the association that a connection has, if it has one and had none before.
-fn note_acceptance(notes: &mut Notes, slot: &Slot, heard: PduSummary, was_open: bool) {
+fn note_acceptance(notes: &mut Notes, slot: &Slot, was_open: bool) {
     if was_open {
         return;
     }
-    if let Some(name) = &slot.institution {
-        notes.accept(name, slot.association.agreement(), heard);
+    let agreement = slot.association.agreement();
+    if let (Some(name), Some(agreement), Some(titles)) = (&slot.institution, agreement, slot.titles)
+    {
+        notes.accept(name, titles, agreement.contexts.len());
     }
 }
 
 /// Takes a piece on the connection that has a slot: gives the institution that has the connection,
-/// what is to be answered, and what a log is told of.
+/// and what is to be answered.
 fn take_piece<'a>(
     alloc: Global,
     config: &'a Config,
     tally: &OpenAssociations,
     slot: &mut Slot,
     piece: &[u8],
-) -> Result<(Option<&'a Institution>, Taken, PduSummary), AllocError>
+) -> Result<(Option<&'a Institution>, Taken), AllocError>
     ensures { (world : World) (c : Connection) → IsHeld config.now slot.old c →
         IsTallied config.now tally.now.counts.items world.connections → IfOk result (λ x.
         Took config.now world c piece.now (option_copied x.0) x.1 slot.old slot.new) }
@@ -441,13 +454,12 @@ fn take_piece<'a>(
         return Err(AllocError);
     };
     let institution = owner_of(config, slot, fed.pdus.as_slice());
-    let heard = PduSummary::of(fed.pdus.as_slice());
     let called = Called {
         institution,
         verdict: verdict_for(config, tally, institution),
     };
     let taken = slot.take(alloc, called, fed)?;
-    Ok((institution, taken, heard))
+    Ok((institution, taken))
 }
 
 fn octets_reply(number: u64, octets: Vec<u8>, close: bool) -> Reply

@@ -23,7 +23,7 @@ mod table_inspection;
 pub use dimse_operation::DimseOperation;
 pub use event::{Event, Reply};
 pub use fault::Fault;
-pub use notes::{LogEvent, Note, Notes, Party, QuerySummary, Titles};
+pub use notes::{LogEvent, Note, Notes, QuerySummary, Titles};
 pub use server::{Outcome, Server, run, well_formed};
 pub use showing::{SearchKind, ShownPage};
 pub use table_inspection::TableInspection;

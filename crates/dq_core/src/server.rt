@@ -13,7 +13,7 @@ ghost use Rattle.dq_core.specs.Soundness.{HoldSound, BringOctets};
 ghost use Rattle.dq_core.specs.Conversations.{IsAnsweredRun};
 ghost use Rattle.dq_core.specs.Histories.{is_above, newest_after, rises_from, is_well_formed_history};
 ghost use Rattle.dq_core.specs.Stepping.{Opens, TakesNoMemory, HealthAfter, MayLeaveAfter, IsPartOf};
-ghost use Rattle.dq_core.specs.Slots.{has_slot, has_search, AreHeld, Turned};
+ghost use Rattle.dq_core.specs.Slots.{has_slot, has_search, titles_at, AreHeld, Turned};
 ghost use Rattle.dq_core.specs.ServerView.{IsQuiet, IsWorking, Refines};
 ghost use Rattle.dq_tables.specs.Lookups.{rows_of};
 ghost use Rattle.dq_core.specs.Looking.{Looked, FailsToLook};
@@ -27,7 +27,7 @@ use crate::laws::{
     associations_are_answered_in_full, institutions_are_answered_by_records,
     institutions_are_isolated, institutions_have_own_names, runs_are_isolated,
 };
-use crate::notes::Notes;
+use crate::notes::{Notes, Titles};
 use crate::orders::{schedule_entry, withdraw_entry};
 use crate::showing::{SearchKind, ShownPage, search_page, steps_page};
 use crate::table_inspection::TableInspection;
@@ -144,6 +144,13 @@ impl<T: Tables> Server<T> {
         ensures spent { self.now.spent ≡ true → result ≡ false }
     {
         !self.spent && self.connections.is_pending(number)
+    }
+
+    /// The titles of the request on the connection that is held under a number, once it is whole.
+    pub fn titles(&self, number: u64) -> Option<Titles>
+        ensures { result ≡ titles_at number self.now.slots }
+    {
+        self.connections.titles(number)
     }
 
     /// The institutions that share the server, in the order of the configuration.

@@ -5,7 +5,7 @@ ghost use Rattle.dq_wires.specs.Lines.{has_line};
 use crate::given_up::GivenUp;
 use crate::log_line::{LineContent, LogLine};
 use crate::watched::Watched;
-use dq_assoc::Service;
+use dq_assoc::{AssociationEnd, Service};
 use dq_core::{LogEvent, Note, Notes};
 use jiff::Timestamp;
 use std::alloc::{AllocError, Global};
@@ -218,8 +218,12 @@ fn is_told(noted: &LogEvent) -> bool
     ensures { result ≡ has_line noted.now }
 {
     match noted {
-        LogEvent::Accepted { .. } | LogEvent::Rejected { .. } | LogEvent::Aborted { .. } => true,
-        LogEvent::Released | LogEvent::Ended => false,
+        LogEvent::Ended
+        | LogEvent::Closed {
+            end: AssociationEnd::Released,
+            ..
+        } => false,
+        LogEvent::Accepted { .. } | LogEvent::Closed { .. } => true,
         LogEvent::Served { service, .. } => {
             *service == Service::StudyRootFind || *service == Service::WorklistFind
         }

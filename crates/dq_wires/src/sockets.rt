@@ -1,7 +1,7 @@
 //! Wires over sockets.
 ghost use Rattle.std.specs.Prelude.{◌≡◌};
 
-use crate::calls::{ReadTurn, WireFault};
+use crate::calls::{Progress, ReadTurn, WireFault};
 use crate::given_up::{GivenUp, GivesUp, Limits, Reason};
 use crate::limits::MOST_WIRES;
 use crate::socket::{Door, Socket};
@@ -368,6 +368,12 @@ impl Wires for SocketWires {
                 self.is_busy = true;
                 Ok(count)
             }
+        }
+    }
+
+    fn learn(&mut self, place: usize, progress: Progress) {
+        if let Some(Some(connection)) = self.connections.get_mut(place) {
+            connection.learn(progress);
         }
     }
 

@@ -80,7 +80,7 @@ impl Watched {
         ensures left { self.new ≡ record self.old { opened = open_after noted.now self.old.opened } }
     {
         match noted {
-            LogEvent::Released | LogEvent::Ended | LogEvent::Aborted { .. } => self.opened.take(),
+            LogEvent::Closed { .. } | LogEvent::Ended => self.opened.take(),
             _ => None,
         }
     }
