@@ -26,4 +26,4 @@ pub use fault::Fault;
 pub use notes::{LogEvent, Note, Notes, QuerySummary, Titles};
 pub use server::{Outcome, Server, run, well_formed};
 pub use showing::{SearchKind, ShownPage};
-pub use table_inspection::TableInspection;
+pub use table_inspection::{FoundPage, RowCount, StepsPage, TableInspection};
