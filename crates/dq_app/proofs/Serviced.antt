@@ -1,5 +1,5 @@
 -- Services that go on.
-use Rattle.std.proofs.Common.{◌≡◌, ℕ, List, [], ◌++◌, length, ◌∙◌, Option}
+use Rattle.std.proofs.Common.{◌≡◌, ℕ, List, [], ◌++◌, length, subst, ◌∙◌, Option, Some, None}
 use Rattle.std.proofs.lemmas.List.{append-nil}
 use Rattle.std.specs.List.{flat_map}
 use Rattle.dq_config.specs.declared.config.Institution.{Institution}
@@ -20,10 +20,12 @@ use Rattle.dq_wires.specs.Turns.{Hold}
 use Rattle.dq_wires.specs.Turners.{TurnerView}
 use Rattle.dq_app.specs.declared.stop.Stop.{Stop}
 use Rattle.dq_app.specs.Looping.{ArePlayedOver}
-use Rattle.dq_app.specs.Rounds.{RoundsCut}
-use Rattle.dq_console.specs.ServiceProgress.{WentOn}
+use Rattle.dq_app.specs.Rounds.{RoundsCut, AreBeside, AreBesideTo, Begins, view_of}
+use Rattle.dq_console.specs.declared.console.Console.{Console}
+use Rattle.dq_console.specs.Console.{HeldClient}
+use Rattle.dq_console.specs.ServiceProgress.{WentOn, AreHonest}
 use Rattle.dq_console.proofs.ServiceProgress.{WholeServes, RowsServe}
-use Rattle.dq_app.specs.Serving.{Round, rounds_acts, Halt, HasConsole, HasConsoleTo, IsUncalled, AreServed, Served, ServedUpTo}
+use Rattle.dq_app.specs.Serving.{Round, rounds_acts, Halt, AreConsoled, clients_left, IsHalt, HasConsole, HasConsoleTo, IsUncalled, AreServed, Served, ServedUpTo}
 
 -- what has gone on from a beginning is a service
 module _ {Tables : Type 0} (state : Tables → State) (rows : List Row) where
@@ -86,6 +88,46 @@ module _ {Tables : Type 0} (state : Tables → State) (rows : List Row) where
         served = served-to log wires left replied cut.served cut.calls (honest cut.last.tables) same uncalled;
         consoled = consoled;
       }
+
+-- a service has had its console, if there is one
+module _ {Tables Wired Front : Type 0} (state : Tables → State) (log : Wired → Option (List Call)) (institutions : List Institution) (rows : List Row)
+    (now : Option (List Call)) (old : TurnerView Tables) (honest : AreHonest state) (begun : Serving state rows now now old.server old.server old.hold [])
+    (same : old.server.institutions ≡ institutions) where
+  pub has-console : (clients : Option (List ℕ)) (from to : Option (Console Wired Front)) (rounds : List Round) → Begins log institutions clients from
+      → AreBeside state now old (view_of log from) (view_of log to) rounds → HasConsole log institutions rows clients rounds
+  has-console None None None rounds begins are = are
+  has-console None None (Some to) rounds begins are = absurd are
+  has-console None (Some from) to rounds begins are = absurd begins
+  has-console (Some path) None to rounds begins are = absurd begins
+  has-console (Some path) (Some from) None rounds begins are = absurd are
+  has-console (Some path) (Some from) (Some to) rounds begins are = (
+    from.handler.wires,
+    to.handler.wires,
+    begins.0,
+    subst (λ (clients : List HeldClient). AreConsoled clients rounds) begins.1 are.are,
+    are.calls,
+    rw (same, begins.2) at (are.tells honest rows now old.server [] begun),
+  )
+
+  pub has-console-to : (clients : Option (List ℕ)) (from to : Option (Console Wired Front)) (rounds : List Round) (halt : Halt)
+      → Begins log institutions clients from → AreBesideTo state now old (view_of log from) (view_of log to) rounds halt
+      → HasConsoleTo log institutions rows clients rounds halt
+  has-console-to None None None rounds halt begins are = are
+  has-console-to None None (Some to) rounds halt begins are = absurd are
+  has-console-to None (Some from) to rounds halt begins are = absurd begins
+  has-console-to (Some path) None to rounds halt begins are = absurd begins
+  has-console-to (Some path) (Some from) None rounds halt begins are = absurd are
+  has-console-to (Some path) (Some from) (Some to) rounds halt begins are =
+      let told = rw (same, begins.2) at (are.tells honest rows now old.server [] begun) in (
+        from.handler.wires,
+        to.handler.wires,
+        begins.0,
+        subst (λ (clients : List HeldClient). AreConsoled clients rounds) begins.1 are.are,
+        subst (λ (clients : List HeldClient). IsHalt (clients_left clients rounds) halt) begins.1 are.is,
+        are.calls,
+        told.0,
+        told.1,
+      )
 
 -- the events of a capture were played
 module _ {Tables : Type 0} (state : Tables → State) where
