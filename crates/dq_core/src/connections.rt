@@ -426,8 +426,11 @@ fn note_acceptance(notes: &mut Notes, slot: &Slot, was_open: bool) {
         return;
     }
     let agreement = slot.association.agreement();
-    if let (Some(name), Some(agreement), Some(titles)) = (&slot.institution, agreement, slot.titles)
-    {
+    if let (Some(name), Some(agreement), Some(titles)) = (
+        &slot.institution,
+        agreement,
+        slot.titles,
+    ) {
         notes.accept(name, titles, agreement.contexts.len());
     }
 }

@@ -37,8 +37,7 @@ pub trait Wires {
     fn learn(&mut self, _place: usize, _progress: Progress)
         ensures told { log self.new ≡ log self.old }
         ensures failed { failed_accepts self.new ≡ failed_accepts self.old }
-    {
-    }
+    {}
 
     /// Gives up a connection. Its place is then free, also where it fails.
     fn shut(&mut self, place: usize) -> Result<(), WireFault>

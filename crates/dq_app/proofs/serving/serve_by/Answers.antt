@@ -62,7 +62,7 @@ returns-clause-ends g c =
     let same : turner.server.institutions ≡ c.args.server.institutions = ap (λ (s : ServerView g.row.T.Denot). s.institutions) start in
     let off = c.in-Err.ensures.cut in
     cut-ends _ (g.W.Sink.may_fail c.args.output.now) _ _ c.args.service.port IsSo _ _ c.in_ok-put_ready.ensures.ready off.causes (λ honest.
-        service-cut state rows g.N.Wired.Wires.log g.N.Console.Wires.log wires c.serve_rounds.new.listeners.wires clients c.args.server.institutions
-        c.servings_are_answered.ensures.replies begun honest same c.of-pace.ensures (rw c.console_of.ensures.same c.in_ok-wires.ensures.uncalled) off
-        (has-console-to state g.N.Console.Wires.log c.args.server.institutions rows log turner honest begun same clients c.in_ok-console.console
-        c.serve_rounds.new.listeners.console off.rounds off.halt (rw c.institutions.ensures at c.in_ok-console.ensures.begins) off.so))
+    service-cut state rows g.N.Wired.Wires.log g.N.Console.Wires.log wires c.serve_rounds.new.listeners.wires clients c.args.server.institutions
+    c.servings_are_answered.ensures.replies begun honest same c.of-pace.ensures (rw c.console_of.ensures.same c.in_ok-wires.ensures.uncalled) off
+    (has-console-to state g.N.Console.Wires.log c.args.server.institutions rows log turner honest begun same clients c.in_ok-console.console
+    c.serve_rounds.new.listeners.console off.rounds off.halt (rw c.institutions.ensures at c.in_ok-console.ensures.begins) off.so))
