@@ -72,8 +72,8 @@ class Speaker(Client):
         return "".join(f"{line}\r\n" for line in [*lines, *fields,
                                                   ""]).encode("latin-1") + (body or b"")
 
-    def __init__(self, port: int) -> None:
-        super().__init__(port)
+    def __init__(self, port: int, source: str | None = None) -> None:
+        super().__init__(port, source=source)
         self.port = port
 
     def response(self, is_head: bool = False) -> Response | None:

@@ -38,7 +38,7 @@ refused_by 6 'the test'
 notices 'a test without allocations' 'tests::servers::a_server_without_memory_stops, allocations' "${command[@]}"
 
 # data sets
-for one in kept faults representations cuts sifted pieces long json names refused; do
+for one in kept faults representations cuts sifted pieces long json readings names refused; do
     notices "trials of which none is told: $one" '' "$top/suite/data_sets" "$(around "silent_$one" '"$trials" > /dev/null')" $one
 done
 notices 'trials of which the last is not told' 'representations' "$top/suite/data_sets" "$(around all_but_one '"$trials" | head -n -1')" \
@@ -48,6 +48,8 @@ notices 'a list of tags that is not heeded' 'sifted' "$top/suite/data_sets" \
     "$(around unheeded 'sed "s/^sift none/sift storage/" | "$trials"')" sifted
 notices 'numbers that are text in JSON' 'clients.in as JSON' "$top/suite/data_sets" \
     "$(around numbers_as_text '"$trials" | sed -E "s/(\"US\",\"Value\":\[)([0-9]+)/\1\"\2\"/"')" json
+notices 'another place of what is wrong in JSON' json/readings "$top/suite/data_sets" \
+    "$(around other_place '"$trials" | sed "s/^json vr 00100010$/json vr 00100020/"')" readings
 notices 'an attribute that is named twice' 'names of attributes' "$top/suite/data_sets" \
     "$(around other_tag '"$trials" | sed "s/^16 32$/16 16/"')" names
 notices 'a fault that is not told' 'nested with allocation' "$top/suite/data_sets" "$(around untold '"$trials" 2> /dev/null')" refused

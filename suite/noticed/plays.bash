@@ -120,7 +120,7 @@ tells_no() {
     around "without_${1//[^a-z]/}" '"$program" "$@" 2> "$made/told"; status=$?; grep -v -e "'"$1"'" "$made/told" >&2; exit $status'
 }
 notices 'a usage without an option' "the usage after 'replay --help'" "$run" "$(tells_no --config)" words
-for one in --config --new --store --port --turns --listen --artim --quiet --peer-connections --web --web-keys --web-listen --web-host --web-peer-connections --console --log --log-file; do
+for one in --config --new --store --port --turns --listen --artim --quiet --peer-connections --web --web-keys --web-listen --web-host --web-origin --web-proxy --web-peer-connections --console --log --log-file; do
     notices "a usage of serve without $one" "the usage after 'serve --help'" "$run" "$(tells_no "  $one ")" words
 done
 for one in 'help serve' 'loopback --help' 'help loopback'; do

@@ -4,6 +4,7 @@ use Rattle.std.specs.Io.KnownBytes.{Keeps, Appends}
 use Rattle.clap.specs.declared.error.kind.ErrorKind.{ErrorKind}
 use Rattle.clap.specs.declared.error.kind.ErrorKind.TheVariants as kind
 use Rattle.dq_tables.specs.declared.row.Row.{Row}
+use Rattle.dq_tables.specs.TableStates.{State}
 use Rattle.dq_wires.specs.declared.calls.Call.{Call}
 use Rattle.dq_wires.specs.Turns.{Cut}
 use Rattle.dq_cli.specs.CommandLine.{Command, Plays, Serves, Loops, Migrates, Checks, Copies, Exports}
@@ -46,10 +47,10 @@ no-usage-file : (unread : List ℕ → Type 0) (held : List ℕ → Option (List
 no-usage-file unread held None is = absurd (cc)
 no-usage-file unread held (Some path) is = is
 
-module _ {Wired Console : Type 0} (log : Wired → Option (List Call)) (console_log : Console → Option (List Call))
-    (held : List ℕ → Option (List ℕ)) (stored : List ℕ → Option (List Row))
+module _ {Wired Console File : Type 0} (log : Wired → Option (List Call)) (console_log : Console → Option (List Call)) (state : File → State)
+    (held : List ℕ → Option (List ℕ)) (stored : List ℕ → List Row → Type 0)
     (input before after : Option (List ℕ)) (unread : List ℕ → Type 0) (unfed fails breaks : Type 0) where
-  no-usage : (command : Command) → EndsEarly log console_log held stored input before after unread unfed fails breaks command Usage → ⊥
+  no-usage : (command : Command) → EndsEarly log console_log state held stored input before after unread unfed fails breaks command Usage → ⊥
   no-usage (Plays request) (inl refused) = no-usage-file unread held request.config refused.1
   no-usage (Plays request) (inr (inl refused)) = refused.2
   no-usage (Plays request) (inr (inr (institutions, events, by, tells, inl refused))) = refused.1
@@ -70,7 +71,7 @@ module _ {Wired Console : Type 0} (log : Wired → Option (List Call)) (console_
   no-usage (Exports exporting) (inr (inr kept)) = let is : Usage ≡ unclosed_store = kept.0 in absurd (cc)
 
   -- words that are understood are not told as usage
-  pub not_usage : (command : Command) (cause : Stop) → EndsEarly log console_log held stored input before after unread unfed fails breaks command cause
+  pub not_usage : (command : Command) (cause : Stop) → EndsEarly log console_log state held stored input before after unread unfed fails breaks command cause
       → status_of cause ≡ 1 → ⊥
   not_usage command Usage ends one = no-usage command ends
   not_usage command (Config number) ends one = absurd (omega (arith, one))
@@ -82,11 +83,11 @@ module _ {Wired Console : Type 0} (log : Wired → Option (List Call)) (console_
   not_usage command Output ends one = absurd (omega (arith, one))
   not_usage command Network ends one = absurd (omega (arith, one))
 
-module _ {Wired Console : Type 0} (log : Wired → Option (List Call)) (console_log : Console → Option (List Call))
-    (held : List ℕ → Option (List ℕ)) (stored : List ℕ → Option (List Row))
+module _ {Wired Console File : Type 0} (log : Wired → Option (List Call)) (console_log : Console → Option (List Call)) (state : File → State)
+    (held : List ℕ → Option (List ℕ)) (stored : List ℕ → List Row → Type 0)
     (input written : Option (List ℕ)) (unread : List ℕ → Type 0) (unfed fails breaks : Type 0) where
   -- nothing was done, for want of memory
-  pub unbegun : (command : Command) → EndsEarly log console_log held stored input written written unread unfed fails breaks command (Fault no_memory)
+  pub unbegun : (command : Command) → EndsEarly log console_log state held stored input written written unread unfed fails breaks command (Fault no_memory)
   unbegun (Plays request) = inl (keeps written, no_file unread held request.config)
   unbegun (Serves serving) = inl (keeps written, no_file unread held serving.config)
   unbegun (Loops file) = keeps written
@@ -99,7 +100,7 @@ module _ {Wired Console : Type 0} (log : Wired → Option (List Call)) (console_
   pub unread_words : (found : Option Command) (command : Command) (Told : Stop → Type 0) (k : ErrorKind) (status : ℕ)
       → found ≡ Some command → (k ≢ kind.OutOfMemory → found ≡ None) → (k ≡ kind.OutOfMemory → (status ≡ 4) × Told (Fault no_memory))
       → (cause : Stop) × (status ≡ status_of cause) × Told cause
-      × EndsEarly log console_log held stored input written written unread unfed fails breaks command cause
+      × EndsEarly log console_log state held stored input written written unread unfed fails breaks command cause
   unread_words found command Told k status is other memory = elim (memory_or_not k) [
     | inl so ↦ let told = memory so in (Fault no_memory, told.0, told.1, unbegun command)
     | inr not ↦ let none : found ≡ None = other not in absurd (cc)
@@ -124,10 +125,6 @@ stops-at P cause is holds = rw is holds
 pub both-ok : {T E : Type 0} (A B : Type 0) (r : Result T E) → OnOk r A → OnOk r B → OnOk r (A × B)
 both-ok A B (Ok x) a b = (a, b)
 both-ok A B (Err e) a b = tt
-
-pub all-ok : {T E : Type 0} (A B C : Type 0) (r : Result T E) → OnOk r A → OnOk r B → OnOk r C → OnOk r (A × B × C)
-all-ok A B C (Ok x) a b c = (a, b, c)
-all-ok A B C (Err e) a b c = tt
 
 -- ---- services
 

@@ -1,5 +1,5 @@
 -- A replay over a store is exact, by the law of dq_core.
-use Rattle.std.specs.Prelude.{◌≡◌, ℕ, List, length, take, Option, Some, IfSome, IsTrue}
+use Rattle.std.specs.Prelude.{◌≡◌, ℕ, List, length, take, Some, IsTrue}
 use Rattle.dq_config.specs.declared.config.Institution.{Institution}
 use Rattle.dq_tables.specs.declared.row.Row.{Row}
 use Rattle.dq_core.specs.declared.event.Event.{Event}
@@ -19,8 +19,8 @@ AreExactRuns = (institutions : List Institution) (rows : List Row) (events : Lis
     → IsRun institutions rows events given kept → IsTrue (is_well_formed_history events) → HoldSound rows → BringOctets events
     → owner institutions (stream_of number (take (length given) events)) ≡ Some i → IsAnsweredRun institutions rows events given number i
 
-pub replayed : AreExactRuns → (stored : Option (List Row)) (lines : List (List ℕ)) (institutions : List Institution) (rows : List Row)
-    (events : List Event) (given : List Reply) (kept : List Row) → IfSome stored (λ known. rows ≡ known) → AreCapture lines events → HoldSound rows
+pub replayed : AreExactRuns → (stored : List Row → Type 0) (lines : List (List ℕ)) (institutions : List Institution) (rows : List Row)
+    (events : List Event) (given : List Reply) (kept : List Row) → ((held : List Row) → stored held → rows ≡ held) → AreCapture lines events → HoldSound rows
     → BringOctets events → IsRun institutions rows events given kept → IsExactReplay stored lines institutions given kept
 replayed law stored lines institutions rows events given kept of_store told sound octets ran = record {
   rows = rows;

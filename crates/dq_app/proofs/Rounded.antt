@@ -30,11 +30,11 @@ use Rattle.dq_console.specs.Console.{HeldClient, attending_calls, attending_acts
 use Rattle.dq_console.specs.Requests.{IsLeft}
 use Rattle.dq_console.specs.ClientTurns.{Attends, Interrupted}
 use Rattle.dq_app.specs.Program.{stop_of_turning}
-use Rattle.dq_console.specs.ServiceProgress.{WentOn}
+use Rattle.dq_console.specs.ServiceProgress.{WentOn, HoldsAt}
 use Rattle.dq_app.specs.Serving.{Round, round_acts, rounds_acts, console_calls, clients_left, ArePlain, ArePlainTo, AreConsoled, RoundsTell, Halt, halt_acts, halt_calls, IsHalt, HaltTells, HasCause, IsServiceFault}
 use Rattle.dq_app.specs.Serving.Round.{Plain, Consoled}
 use Rattle.dq_app.specs.Serving.Halt.{InTurn, AtConsole}
-use Rattle.dq_app.specs.Rounds.{RoundsWent, RoundsCut, Beside, BesideCut}
+use Rattle.dq_app.specs.Rounds.{RoundsWent, RoundsCut, Beside, BesideCut, ConsoleView, AreBeside, AreBesideTo, IsAttended, IsInterrupted}
 use Rattle.dq_console.proofs.ServiceProgress.{TurnsServe, TurnsCutServe, WholeServes, holds-later, went-nowhere, went-then, went-by-turns}
 
 -- no turn is whole of one that was cut off
@@ -97,62 +97,98 @@ rounds-tell institutions names rows done (Consoled turn attending ∷ some) late
       (sym (append_assoc done (round_acts (Consoled turn attending)) (rounds_acts some))) b),
 )
 
-module _ {Tables : Type 0} (state : Tables → State) (names : List (List ℕ)) where
-  pub beside-none : (now : Option (List Call)) (old : TurnerView Tables) (log : Option (List Call)) (clients : List HeldClient)
-      → Beside state names now old log log clients clients []
-  beside-none now old log clients = record { are = tt; calls = logs-none log; leaves = refl; tells = λ honest rows start first done s. tt }
+module _ {Tables : Type 0} (state : Tables → State) where
+  beside-none : (now : Option (List Call)) (old : TurnerView Tables) (view : ConsoleView) → Beside state now old view view []
+  beside-none now old view = record { are = tt; calls = logs-none view.calls; leaves = refl; named = refl; tells = λ honest rows start first done s. tt }
 
-  pub beside-then : {now next_now before mid after : Option (List Call)} {old one : TurnerView Tables} {from via to : List HeldClient} (some later : List Round)
-      → Beside state names now old before mid from via some → WentOn state now next_now old one (rounds_acts some)
-      → Beside state names next_now one mid after via to later → Beside state names now old before after from to (some ++ later)
-  beside-then {before = before} {mid} {after} {from = from} {via} {to} some later first went next =
-      let are : AreConsoled (clients_left from some) later = rw first.leaves at next.are in
+  beside-then : {now next_now : Option (List Call)} {old one : TurnerView Tables} (from via to : ConsoleView) (some later : List Round)
+      → Beside state now old from via some → WentOn state now next_now old one (rounds_acts some)
+      → Beside state next_now one via to later → Beside state now old from to (some ++ later)
+  beside-then {next_now = next_now} {one = one} from via to some later first went next =
+      let are : AreConsoled (clients_left from.clients some) later =
+      subst (λ (clients : List HeldClient). AreConsoled clients later) first.leaves next.are in
+      let told = subst (λ (names : List (List ℕ)). HoldsAt state next_now one (λ institutions rows acts. RoundsTell institutions names rows acts later))
+      first.named next.tells in
       record {
-        are = consoled-then from some later first.are are;
+        are = consoled-then from.clients some later first.are are;
         calls = rw (flat_map-append console_calls some later)
-            (logs-then before mid after (flat_map console_calls some) (flat_map console_calls later) first.calls next.calls);
-        leaves = next.leaves ∙ ap (λ (clients : List HeldClient). clients_left clients later) first.leaves ∙ sym (left-then from some later);
+            (logs-then from.calls via.calls to.calls (flat_map console_calls some) (flat_map console_calls later) first.calls next.calls);
+        leaves = next.leaves ∙ ap (λ (clients : List HeldClient). clients_left clients later) first.leaves ∙ sym (left-then from.clients some later);
+        named = next.named ∙ first.named;
         tells = λ honest rows start server done s.
-            rounds-tell server.institutions names rows done some later (first.tells honest rows start server done s)
-            (holds-later state (λ institutions rows acts. RoundsTell institutions names rows acts later) went next.tells honest rows start server done s);
+            rounds-tell server.institutions from.names rows done some later (first.tells honest rows start server done s)
+            (holds-later state (λ institutions rows acts. RoundsTell institutions from.names rows acts later) went told honest rows start server done s);
       }
 
-  pub beside-then-cut : {now next_now before mid after : Option (List Call)} {old one : TurnerView Tables} {from via : List HeldClient} (some later : List Round)
-      (halt : Halt) → Beside state names now old before mid from via some → WentOn state now next_now old one (rounds_acts some)
-      → BesideCut state names next_now one mid after via later halt → BesideCut state names now old before after from (some ++ later) halt
-  beside-then-cut {before = before} {mid} {after} {from = from} {via} some later halt first went next =
-      let are : AreConsoled (clients_left from some) later = rw first.leaves at next.are in
-      let is : IsHalt (clients_left (clients_left from some) later) halt = rw first.leaves at next.is in
+  beside-then-cut : {now next_now : Option (List Call)} {old one : TurnerView Tables} (from via to : ConsoleView) (some later : List Round)
+      (halt : Halt) → Beside state now old from via some → WentOn state now next_now old one (rounds_acts some)
+      → BesideCut state next_now one via to later halt → BesideCut state now old from to (some ++ later) halt
+  beside-then-cut {next_now = next_now} {one = one} from via to some later halt first went next =
+      let are : AreConsoled (clients_left from.clients some) later =
+      subst (λ (clients : List HeldClient). AreConsoled clients later) first.leaves next.are in
+      let is : IsHalt (clients_left (clients_left from.clients some) later) halt =
+      subst (λ (clients : List HeldClient). IsHalt (clients_left clients later) halt) first.leaves next.is in
+      let later_told = subst (λ (names : List (List ℕ)). HoldsAt state next_now one (λ institutions rows acts. RoundsTell institutions names rows acts later
+      × HaltTells institutions names rows (acts ++ rounds_acts later) halt)) first.named next.tells in
       record {
-        are = consoled-then from some later first.are are;
-        is = rw (left-then from some later) is;
+        are = consoled-then from.clients some later first.are are;
+        is = rw (left-then from.clients some later) is;
         calls = rw (flat_map-append console_calls some later, append_assoc (flat_map console_calls some) (flat_map console_calls later) (halt_calls halt))
-            (logs-then before mid after (flat_map console_calls some) (flat_map console_calls later ++ halt_calls halt) first.calls next.calls);
+            (logs-then from.calls via.calls to.calls (flat_map console_calls some) (flat_map console_calls later ++ halt_calls halt) first.calls next.calls);
         tells = λ honest rows start server done s.
-            let told = holds-later state (λ institutions rows acts. RoundsTell institutions names rows acts later
-            × HaltTells institutions names rows (acts ++ rounds_acts later) halt) went next.tells honest rows start server done s in (
-              rounds-tell server.institutions names rows done some later (first.tells honest rows start server done s) told.0,
-              subst (λ (acts : List Act). HaltTells server.institutions names rows acts halt)
+            let told = holds-later state (λ institutions rows acts. RoundsTell institutions from.names rows acts later
+            × HaltTells institutions from.names rows (acts ++ rounds_acts later) halt) went later_told honest rows start server done s in (
+              rounds-tell server.institutions from.names rows done some later (first.tells honest rows start server done s) told.0,
+              subst (λ (acts : List Act). HaltTells server.institutions from.names rows acts halt)
                   (append_assoc done (rounds_acts some) (rounds_acts later) ∙ ap (λ (acts : List Act). done ++ acts) (sym (flat_map-append round_acts some later)))
                   told.1,
             );
       }
 
   -- no turn of the console was begun
-  pub beside-cut-none : (now : Option (List Call)) (old : TurnerView Tables) (log : Option (List Call)) (clients : List HeldClient) (cut : Cut)
-      → BesideCut state names now old log log clients [] (InTurn cut)
-  beside-cut-none now old log clients cut =
-      record { are = tt; is = tt; calls = logs-none log; tells = λ honest rows start first done s. (tt, tt) }
+  pub besides-cut-none : (now : Option (List Call)) (old : TurnerView Tables) (view : Option ConsoleView) (cut : Cut)
+      → AreBesideTo state now old view view [] (InTurn cut)
+  besides-cut-none now old None cut = tt
+  besides-cut-none now old (Some view) cut =
+      record { are = tt; is = tt; calls = logs-none view.calls; tells = λ honest rows start first done s. (tt, tt) }
 
   -- its turns were made
-  pub beside-cut-whole : {now before after : Option (List Call)} {old : TurnerView Tables} {from to : List HeldClient} (rounds : List Round)
-      → Beside state names now old before after from to rounds → BesideCut state names now old before after from rounds (InTurn NoRoom)
-  beside-cut-whole rounds one = record {
-    are = one.are;
+  pub besides-cut-whole : (now : Option (List Call)) (old : TurnerView Tables) (from to : Option ConsoleView) (rounds : List Round)
+      → AreBeside state now old from to rounds → AreBesideTo state now old from to rounds (InTurn NoRoom)
+  besides-cut-whole now old None None rounds are = are
+  besides-cut-whole now old None (Some to) rounds are = absurd are
+  besides-cut-whole now old (Some from) None rounds are = absurd are
+  besides-cut-whole now old (Some from) (Some to) rounds are = record {
+    are = are.are;
     is = tt;
-    calls = rw append-nil one.calls;
-    tells = λ honest rows start first done s. (one.tells honest rows start first done s, tt);
+    calls = rw append-nil are.calls;
+    tells = λ honest rows start first done s. (are.tells honest rows start first done s, tt);
   }
+
+  pub besides-none : (now : Option (List Call)) (old : TurnerView Tables) (view : Option ConsoleView) → AreBeside state now old view view []
+  besides-none now old None = tt
+  besides-none now old (Some view) = beside-none now old view
+
+  pub besides-then : (now next_now : Option (List Call)) (old one : TurnerView Tables) (from via to : Option ConsoleView) (some later : List Round)
+      → AreBeside state now old from via some → WentOn state now next_now old one (rounds_acts some) → AreBeside state next_now one via to later
+      → AreBeside state now old from to (some ++ later)
+  besides-then now next_now old one None None None some later first went next = plain-then some later first next
+  besides-then now next_now old one None None (Some to) some later first went next = absurd next
+  besides-then now next_now old one None (Some via) to some later first went next = absurd first
+  besides-then now next_now old one (Some from) None to some later first went next = absurd first
+  besides-then now next_now old one (Some from) (Some via) None some later first went next = absurd next
+  besides-then now next_now old one (Some from) (Some via) (Some to) some later first went next = beside-then from via to some later first went next
+
+  pub besides-then-cut : (now next_now : Option (List Call)) (old one : TurnerView Tables) (from via to : Option ConsoleView) (some later : List Round)
+      (halt : Halt) → AreBeside state now old from via some → WentOn state now next_now old one (rounds_acts some)
+      → AreBesideTo state next_now one via to later halt → AreBesideTo state now old from to (some ++ later) halt
+  besides-then-cut now next_now old one None None None some later halt first went next = plain-then-cut some later halt first next
+  besides-then-cut now next_now old one None None (Some to) some later halt first went next = absurd next
+  besides-then-cut now next_now old one None (Some via) to some later halt first went next = absurd first
+  besides-then-cut now next_now old one (Some from) None to some later halt first went next = absurd first
+  besides-then-cut now next_now old one (Some from) (Some via) None some later halt first went next = absurd next
+  besides-then-cut now next_now old one (Some from) (Some via) (Some to) some later halt first went next =
+      beside-then-cut from via to some later halt first went next
 
 -- ---- why a service is stopped
 
@@ -269,11 +305,11 @@ module _ {Tables : Type 0} (state : Tables → State) where
   }
 
   -- a turn of all connections, and then one of the console that was interrupted
-  module _ {breaks : Type 0} {names : List (List ℕ)} {before after beside left : Option (List Call)} {old mid new : TurnerView Tables} {from : List HeldClient}
-      (law : TurnsServe state) (whole : WholeServes state) (at : Interrupted state names beside left mid new from) (why : Fault) where
+  module _ {breaks : Type 0} {before after : Option (List Call)} {old mid new : TurnerView Tables} (from to : ConsoleView)
+      (law : TurnsServe state) (whole : WholeServes state)
+      (at : Interrupted state from.names from.calls to.calls mid new from.clients) (why : Fault) where
     interrupted-round : (turns : List Turn) → length turns ≡ 1 → WentOn state before after old mid (all_turned turns)
-        → RoundsCut state breaks before after old new.server 1 (BesideCut state names before old beside left from)
-        (stop.Fault (fault_number why))
+        → RoundsCut state breaks before after old new.server 1 (BesideCut state before old from to) (stop.Fault (fault_number why))
     interrupted-round [] one went = absurd (cc)
     interrupted-round (turn ∷ []) one went = record {
       rounds = [];
@@ -285,7 +321,7 @@ module _ {Tables : Type 0} (state : Tables → State) where
         calls = at.calls;
         tells = λ honest rows start first done s. (
           tt,
-          subst (λ (acts : List Act). VisitsTell first.institutions names rows (acts ++ Turned turn ∷ []) at.it.visits) (sym (append-nil done))
+          subst (λ (acts : List Act). VisitsTell first.institutions from.names rows (acts ++ Turned turn ∷ []) at.it.visits) (sym (append-nil done))
               (at.tells after honest rows start first (done ++ Turned turn ∷ []) (went.serves rows start first done s)),
         );
       };
@@ -302,16 +338,12 @@ module _ {Tables : Type 0} (state : Tables → State) where
     }
     interrupted-round (turn ∷ more ∷ turns) one went = absurd (cc)
 
-    pub cut-console : TurnsWent (Moves state) before after old.server mid.server old.hold mid.hold 1 → mid.fault ≡ None
-        → RoundsCut state breaks before after old new.server 1 (BesideCut state names before old beside left from)
-        (stop.Fault (fault_number why))
-    cut-console went works = interrupted-round went.turns went.whole (went-by-turns state law went works)
-
   -- a turn of all connections, and then one of the console
-  module _ {names : List (List ℕ)} {before after beside left : Option (List Call)} {old mid new : TurnerView Tables} {from to : List HeldClient}
-      {IsFront : Option Answering → Type 0} (law : TurnsServe state) (attends : Attends state names beside left mid new from to IsFront) where
+  module _ {before after : Option (List Call)} {old mid new : TurnerView Tables} (from to : ConsoleView) (named : to.names ≡ from.names)
+      {IsFront : Option Answering → Type 0}
+      (attends : Attends state from.names from.calls to.calls mid new from.clients to.clients IsFront) where
     consoled-round : (turns : List Turn) → length turns ≡ 1 → WentOn state before after old mid (all_turned turns)
-        → RoundsWent state before after old new 1 (Beside state names before old beside left from to)
+        → RoundsWent state before after old new 1 (Beside state before old from to)
     consoled-round [] is went = absurd (cc)
     consoled-round (turn ∷ []) is went =
         let attending = attends.attending in
@@ -322,6 +354,7 @@ module _ {Tables : Type 0} (state : Tables → State) where
             are = (attends.is, tt);
             calls = rw (append-nil (attending_calls attending)) attends.calls;
             leaves = attends.leaves;
+            named = named;
             tells = λ honest rows start first done s.
                 (attends.tells after honest rows start first (done ++ Turned turn ∷ []) (went.serves rows start first done s), tt);
           };
@@ -329,6 +362,21 @@ module _ {Tables : Type 0} (state : Tables → State) where
         }
     consoled-round (turn ∷ more ∷ turns) is went = absurd (cc)
 
-    pub beside-round : TurnsWent (Moves state) before after old.server mid.server old.hold mid.hold 1 → mid.fault ≡ None
-        → RoundsWent state before after old new 1 (Beside state names before old beside left from to)
-    beside-round went works = consoled-round went.turns went.whole (went-by-turns state law went works)
+  -- a turn of all connections, and then one of the console, if there is one
+  module _ {before after : Option (List Call)} {old : TurnerView Tables} (mid new : TurnerView Tables) where
+    pub one-round : (from to : Option ConsoleView) → TurnsServe state
+        → TurnsWent (Moves state) before after old.server mid.server old.hold mid.hold 1 → mid.fault ≡ None → IsAttended state mid new from to
+        → RoundsWent state before after old new 1 (AreBeside state before old from to)
+    one-round None None law went works attended = rw attended (plain-rounds law went works)
+    one-round None (Some to) law went works attended = absurd attended
+    one-round (Some from) None law went works attended = absurd attended
+    one-round (Some from) (Some to) law went works attended =
+        consoled-round from to attended.1 attended.0 went.turns went.whole (went-by-turns state law went works)
+
+    pub cut-attending : {breaks : Type 0} (from to : Option ConsoleView) → TurnsServe state → WholeServes state → IsInterrupted state mid new from to
+        → (why : Fault) → TurnsWent (Moves state) before after old.server mid.server old.hold mid.hold 1 → mid.fault ≡ None
+        → RoundsCut state breaks before after old new.server 1 (AreBesideTo state before old from to) (stop.Fault (fault_number why))
+    cut-attending None to law whole at why went works = absurd at
+    cut-attending (Some from) None law whole at why went works = absurd at
+    cut-attending (Some from) (Some to) law whole at why went works =
+        interrupted-round from to law whole at why went.turns went.whole (went-by-turns state law went works)

@@ -1,5 +1,5 @@
 -- Services that go on.
-use Rattle.std.proofs.Common.{◌≡◌, ℕ, List, [], ◌++◌, length, ◌∙◌, Option}
+use Rattle.std.proofs.Common.{◌≡◌, ℕ, List, [], ◌++◌, length, subst, ◌∙◌, Option, Some, None}
 use Rattle.std.proofs.lemmas.List.{append-nil}
 use Rattle.std.specs.List.{flat_map}
 use Rattle.dq_config.specs.declared.config.Institution.{Institution}
@@ -20,10 +20,13 @@ use Rattle.dq_wires.specs.Turns.{Hold}
 use Rattle.dq_wires.specs.Turners.{TurnerView}
 use Rattle.dq_app.specs.declared.stop.Stop.{Stop}
 use Rattle.dq_app.specs.Looping.{ArePlayedOver}
-use Rattle.dq_app.specs.Rounds.{RoundsCut}
-use Rattle.dq_console.specs.ServiceProgress.{WentOn}
-use Rattle.dq_console.proofs.ServiceProgress.{WholeServes, RowsServe}
-use Rattle.dq_app.specs.Serving.{Round, rounds_acts, Halt, HasConsole, HasConsoleTo, IsUncalled, AreServed, Served, ServedUpTo}
+use Rattle.dq_app.specs.Program.{AsFarAsHonest}
+use Rattle.dq_app.specs.Rounds.{RoundsCut, AreBeside, AreBesideTo, Begins, view_of}
+use Rattle.dq_console.specs.declared.console.Console.{Console}
+use Rattle.dq_console.specs.Console.{HeldClient}
+use Rattle.dq_console.specs.ServiceProgress.{WentOn, AreHonest}
+use Rattle.dq_console.proofs.ServiceProgress.{WholeServes, RowsServe, StepsServe}
+use Rattle.dq_app.specs.Serving.{Round, rounds_acts, Halt, AreConsoled, clients_left, IsHalt, HasConsole, HasConsoleTo, IsUncalled, AreServed, Served, ServedUpTo}
 
 -- what has gone on from a beginning is a service
 module _ {Tables : Type 0} (state : Tables → State) (rows : List Row) where
@@ -52,40 +55,95 @@ module _ {Tables : Type 0} (state : Tables → State) (rows : List Row) where
   served-by log wires left {first} {last} {hold} {acts} whole replied service honest same uncalled =
       served-to log wires left replied (whole rows (log wires) (log left) first last hold acts service) (rw append-nil service.calls) honest same uncalled
 
-  pub service-of : {Wired Console : Type 0} (log : Wired → Option (List Call)) (console_log : Console → Option (List Call)) (wires left : Wired) {old new : TurnerView Tables} {count made : ℕ} (console : Option (List ℕ))
-      (institutions : List Institution) (rounds : List Round) → WholeServes state → AreReplied → RowsServe state
+  -- what was honest at the end was so from the first
+  pub was-honest : {first last : ServerView Tables} {acts : List Act} {cut : Cut} → StepsServe state → ServedOver state rows first last acts cut
+      → (state last.tables).honest → (state first.tables).honest
+  was-honest {first} {last} {acts} {cut} histories served honest =
+      (histories first served.steps.last (served_steps acts cut) served.steps.runs).was_honest (served.steps.looks.goes.was_honest honest)
+
+  pub service-of : {Wired Console : Type 0} (log : Wired → Option (List Call)) (console_log : Console → Option (List Call)) (Honest : Type 0)
+      (wires left : Wired) {old new : TurnerView Tables} {count made : ℕ} (console : Option (List ℕ))
+      (institutions : List Institution) (rounds : List Round) → StepsServe state → WholeServes state → AreReplied → RowsServe state
       → Serving state rows (log wires) (log wires) old.server old.server old.hold [] → (state new.server.tables).honest
-      → old.server.institutions ≡ institutions → made ≡ count → IsUncalled (log wires) → length rounds ≡ made → HasConsole console_log institutions rows console rounds
-      → WentOn state (log wires) (log left) old new (rounds_acts rounds) → Served log console_log institutions rows count console (state new.server.tables).rows
-  service-of log console_log wires left {old} {new} console institutions rounds whole replied kept begun honest same number uncalled counted consoled went =
+      → old.server.institutions ≡ institutions → made ≡ count → IsUncalled (log wires) → length rounds ≡ made → HasConsole console_log Honest institutions rows console rounds
+      → WentOn state (log wires) (log left) old new (rounds_acts rounds)
+      → (state old.server.tables).honest × Served log console_log Honest institutions rows count console (state new.server.tables).rows
+  service-of log console_log Honest wires left {old} {new} console institutions rounds histories whole replied kept begun honest same number uncalled counted consoled went =
       let acts = rounds_acts rounds in
       let service = went.serves rows (log wires) old.server [] begun in
-      record {
-        rounds = rounds;
-        counted = counted ∙ number;
-        served = served-by log wires left whole replied service honest same uncalled;
-        consoled = consoled;
-        leaves = rw same at
-            (kept rows old.server new.server acts NoRoom (whole rows (log wires) (log left) old.server new.server new.hold acts service) honest);
-      }
+      let served = whole rows (log wires) (log left) old.server new.server new.hold acts service in (
+        was-honest histories served honest,
+        record {
+          rounds = rounds;
+          counted = counted ∙ number;
+          served = served-by log wires left whole replied service honest same uncalled;
+          consoled = consoled;
+          leaves = rw same at (kept rows old.server new.server acts NoRoom served honest);
+        },
+      )
 
   -- one that was cut off
-  pub service-cut : {Wired Console : Type 0} (log : Wired → Option (List Call)) (console_log : Console → Option (List Call)) (wires left : Wired) {breaks : Type 0} {old : TurnerView Tables} {new : ServerView Tables}
-      {count made : ℕ} {AreSo : List Round → Halt → Type 0} {cause : Stop} (console : Option (List ℕ)) (institutions : List Institution) → AreReplied
-      → Serving state rows (log wires) (log wires) old.server old.server old.hold [] → ((tables : Tables) → (state tables).honest)
+  pub service-cut : {Wired Console : Type 0} (log : Wired → Option (List Call)) (console_log : Console → Option (List Call)) (Honest : Type 0)
+      (wires left : Wired) {breaks : Type 0} {old : TurnerView Tables} {new : ServerView Tables}
+      {count made : ℕ} {AreSo : List Round → Halt → Type 0} {cause : Stop} (console : Option (List ℕ)) (institutions : List Institution)
+      → StepsServe state → AreReplied → Serving state rows (log wires) (log wires) old.server old.server old.hold []
       → old.server.institutions ≡ institutions → made ≡ count → IsUncalled (log wires)
-      → (off : RoundsCut state breaks (log wires) (log left) old new made AreSo cause) → HasConsoleTo console_log institutions rows console off.rounds off.halt
-      → ServedUpTo log console_log breaks institutions rows count console cause
-  service-cut log console_log wires left {old = old} console institutions replied begun honest same number uncalled off consoled =
-      let cut = off.off rows (log wires) old.server [] begun in
-      record {
-        rounds = off.rounds;
-        most = rw number at off.most;
-        halt = off.halt;
-        causes = off.causes;
-        served = served-to log wires left replied cut.served cut.calls (honest cut.last.tables) same uncalled;
-        consoled = consoled;
-      }
+      → (off : RoundsCut state breaks (log wires) (log left) old new made AreSo cause)
+      → HasConsoleTo console_log Honest institutions rows console off.rounds off.halt
+      → AsFarAsHonest state ((state old.server.tables).honest × ServedUpTo log console_log Honest breaks institutions rows count console cause)
+  service-cut log console_log Honest wires left {old = old} console institutions histories replied begun same number uncalled off consoled =
+      let cut = off.off rows (log wires) old.server [] begun in (
+        cut.last.tables,
+        λ honest. (
+          was-honest histories cut.served honest,
+          record {
+            rounds = off.rounds;
+            most = rw number at off.most;
+            halt = off.halt;
+            causes = off.causes;
+            served = served-to log wires left replied cut.served cut.calls honest same uncalled;
+            consoled = consoled;
+          },
+        ),
+      )
+
+-- a service has had its console, if there is one
+module _ {Tables Wired Front : Type 0} (state : Tables → State) (log : Wired → Option (List Call)) (institutions : List Institution) (rows : List Row)
+    (now : Option (List Call)) (old : TurnerView Tables) (begun : Serving state rows now now old.server old.server old.hold [])
+    (same : old.server.institutions ≡ institutions) where
+  pub has-console : (clients : Option (List ℕ)) (from to : Option (Console Wired Front)) (rounds : List Round) → Begins log institutions clients from
+      → AreBeside state now old (view_of log from) (view_of log to) rounds → HasConsole log (AreHonest state) institutions rows clients rounds
+  has-console None None None rounds begins are = are
+  has-console None None (Some to) rounds begins are = absurd are
+  has-console None (Some from) to rounds begins are = absurd begins
+  has-console (Some path) None to rounds begins are = absurd begins
+  has-console (Some path) (Some from) None rounds begins are = absurd are
+  has-console (Some path) (Some from) (Some to) rounds begins are = (
+    from.handler.wires,
+    to.handler.wires,
+    begins.0,
+    subst (λ (clients : List HeldClient). AreConsoled clients rounds) begins.1 are.are,
+    are.calls,
+    λ honest. rw (same, begins.2) at (are.tells honest rows now old.server [] begun),
+  )
+
+  pub has-console-to : (clients : Option (List ℕ)) (from to : Option (Console Wired Front)) (rounds : List Round) (halt : Halt)
+      → Begins log institutions clients from → AreBesideTo state now old (view_of log from) (view_of log to) rounds halt
+      → HasConsoleTo log (AreHonest state) institutions rows clients rounds halt
+  has-console-to None None None rounds halt begins are = are
+  has-console-to None None (Some to) rounds halt begins are = absurd are
+  has-console-to None (Some from) to rounds halt begins are = absurd begins
+  has-console-to (Some path) None to rounds halt begins are = absurd begins
+  has-console-to (Some path) (Some from) None rounds halt begins are = absurd are
+  has-console-to (Some path) (Some from) (Some to) rounds halt begins are = (
+    from.handler.wires,
+    to.handler.wires,
+    begins.0,
+    subst (λ (clients : List HeldClient). AreConsoled clients rounds) begins.1 are.are,
+    subst (λ (clients : List HeldClient). IsHalt (clients_left clients rounds) halt) begins.1 are.is,
+    are.calls,
+    λ honest. rw (same, begins.2) at (are.tells honest rows now old.server [] begun),
+  )
 
 -- the events of a capture were played
 module _ {Tables : Type 0} (state : Tables → State) where
@@ -97,4 +155,41 @@ module _ {Tables : Type 0} (state : Tables → State) where
     acts = acts;
     played = played;
     served = served-by state [] log wires left whole replied service (honest last.tables) same uncalled;
+  }
+
+-- ---- what clients of the console are told, by what is known of what keeps the rows
+
+module _ {Console : Type 0} (log : Console → Option (List Call)) (institutions : List Institution) (rows : List Row) {Honest Also : Type 0}
+    (known : Also → Honest) where
+  console-known : (console : Option (List ℕ)) (rounds : List Round) → HasConsole log Honest institutions rows console rounds
+      → HasConsole log Also institutions rows console rounds
+  console-known None rounds plain = plain
+  console-known (Some path) rounds (wires, left, uncalled, are, calls, tells) = (wires, left, uncalled, are, calls, λ also. tells (known also))
+
+  console-known-to : (console : Option (List ℕ)) (rounds : List Round) (halt : Halt) → HasConsoleTo log Honest institutions rows console rounds halt
+      → HasConsoleTo log Also institutions rows console rounds halt
+  console-known-to None rounds halt plain = plain
+  console-known-to (Some path) rounds halt (wires, left, uncalled, are, is, calls, tells) =
+      (wires, left, uncalled, are, is, calls, λ also. tells (known also))
+
+  pub served-known : {Wired : Type 0} (wired_log : Wired → Option (List Call)) {count : ℕ} {console : Option (List ℕ)} {kept : List Row}
+      → Served wired_log log Honest institutions rows count console kept → Served wired_log log Also institutions rows count console kept
+  served-known wired_log {console = console} it = record {
+    rounds = it.rounds;
+    counted = it.counted;
+    served = it.served;
+    consoled = console-known console it.rounds it.consoled;
+    leaves = it.leaves;
+  }
+
+  pub served-known-to : {Wired : Type 0} (wired_log : Wired → Option (List Call)) {breaks : Type 0} {count : ℕ} {console : Option (List ℕ)} {cause : Stop}
+      → ServedUpTo wired_log log Honest breaks institutions rows count console cause
+      → ServedUpTo wired_log log Also breaks institutions rows count console cause
+  served-known-to wired_log {console = console} it = record {
+    rounds = it.rounds;
+    most = it.most;
+    halt = it.halt;
+    causes = it.causes;
+    served = it.served;
+    consoled = console-known-to console it.rounds it.halt it.consoled;
   }

@@ -1,5 +1,5 @@
 -- The output of an export of an institution's rows, and the reasons why an export stops.
-use Rattle.std.specs.Prelude.{◌≡◌, ◌⊎◌, ℕ, List, [], ◌∷◌, map, take, Option, Some, None, IfSome}
+use Rattle.std.specs.Prelude.{◌≡◌, ◌⊎◌, ℕ, List, [], ◌∷◌, map, take, Option, Some, None}
 use Rattle.std.specs.Io.KnownBytes.{Keeps, Appends}
 use Rattle.std.specs.List.{flat_map}
 use Rattle.dq_dataset.specs.Tree.{ElementList}
@@ -9,13 +9,14 @@ use Rattle.dq_tables.specs.declared.row.Row.{Row}
 use Rattle.dq_tables.specs.Lookups.{records_of}
 use Rattle.dq_tables.specs.Records.{data_set_of}
 use Rattle.dq_tables.specs.Rows.{Record, of}
+use Rattle.dq_tables.specs.TableStates.{State}
 use Rattle.dq_captures.specs.Surroundings.{AppendsPart}
 use Rattle.dq_cli.specs.declared.parsed_command.RowKind.{RowKind}
 use Rattle.dq_cli.specs.declared.parsed_command.RowKind.TheVariants as named
-use Rattle.dq_cli.specs.CommandLine.{Exporting}
+use Rattle.dq_cli.specs.CommandLine.{Exporting, InStore}
 use Rattle.dq_app.specs.declared.stop.Stop.{Stop}
 use Rattle.dq_app.specs.declared.stop.Stop.TheVariants as stop
-use Rattle.dq_app.specs.Program.{EndsTask, RefusesStore, unclosed_store}
+use Rattle.dq_app.specs.Program.{EndsTask, IsOver, RefusesStore, unclosed_store}
 use Rattle.dq_captures.specs.Reports.{every_kind}
 use Rattle.dq_console.specs.ConsoleLines.{json_lines}
 
@@ -57,18 +58,19 @@ CutsLines before after data_sets (stop.Fault number) =
 CutsLines before after data_sets stop.Output = AppendsPart before after (json_lines data_sets)
 CutsLines before after data_sets other = ⊥
 
-module _ (stored : List ℕ → Option (List Row)) (before after : Option (List ℕ)) where
+module _ {File : Type 0} (state : File → State) (stored : List ℕ → List Row → Type 0)
+    (before after : Option (List ℕ)) where
   -- All was printed, and the store was closed with the rows that it had.
   abbrev pub IsExported : (List Row → Type 0) → Exporting → Type 0
   IsExported closed exporting = (kept : List Row) × closed kept
-      × IfSome (stored exporting.store) (λ rows. (kept ≡ rows)
+      × IsOver state stored (InStore exporting.store) (λ rows. (kept ≡ rows)
       × Appends before after (export_text rows exporting))
 
   -- The reasons why an export stops: a refused store, when nothing was printed; the fault of a run or an output that
   -- fails, when the lines are cut short; or a store that is not closed, when all was printed.
   abbrev pub StopsExport : Type 0 → Exporting → Stop → Type 0
   StopsExport fails exporting cause = (Keeps before after × RefusesStore cause)
-      ⊎ ((EndsTask fails cause × IfSome (stored exporting.store) (λ rows.
+      ⊎ ((EndsTask fails cause × IsOver state stored (InStore exporting.store) (λ rows.
       CutsLines before after (exported_of rows exporting) cause))
-      ⊎ ((cause ≡ unclosed_store) × IfSome (stored exporting.store) (λ rows.
+      ⊎ ((cause ≡ unclosed_store) × IsOver state stored (InStore exporting.store) (λ rows.
       Appends before after (export_text rows exporting))))

@@ -1,6 +1,7 @@
 pub mod Checks
 pub mod Copies
 pub mod Commands
+pub mod Entrances
 pub mod Exports
 pub mod HttpAnswers
 pub mod Looping

@@ -1,6 +1,6 @@
 -- The program's behaviour on its words, a configuration and a capture.
 use Rattle.std.specs.Prelude.{◌≡◌, ◌≢◌, ℕ, zero, suc, ◌<◌, ◌≤◌, ◌==◌, ◌⊎◌, if◌then◌else◌, codes, IfSome}
-use Rattle.std.specs.Prelude.{List, [], ◌∷◌, ◌++◌, length, take, Option, None, Some, option_map, Ok, Err}
+use Rattle.std.specs.Prelude.{List, [], ◌∷◌, ◌++◌, length, take, Option, None, Some, Ok, Err}
 use Rattle.std.specs.Str.{IsUtf8}
 use Rattle.std.specs.Io.KnownBytes.{Keeps, Appends}
 use Rattle.dq_config.specs.declared.config.Institution.{Institution}
@@ -36,6 +36,7 @@ use Rattle.dq_cli.specs.declared.parsed_command.Task.{Task}
 use Rattle.dq_cli.specs.declared.parsed_command.Task.TheVariants.{Replay, Report}
 use Rattle.dq_cli.specs.CommandLine.{Request, RowsPlace, InMemory, InNewStore, InStore}
 use Rattle.dq_tables.specs.declared.row.Row.{Row}
+use Rattle.dq_tables.specs.TableStates.{State}
 use Rattle.dq_wires.specs.declared.fault.TurnFault.{TurnFault}
 use Rattle.dq_wires.specs.declared.fault.TurnFault.TheVariants as turning
 
@@ -259,12 +260,31 @@ Breaks before after text other = ⊥
 
 -- ---- tasks
 
--- the rows that a task begins with, where they are known: those of the store that is there, and
--- else none
-abbrev pub rows_at : (List ℕ → Option (List Row)) → RowsPlace → Option (List Row)
-rows_at stored InMemory = Some []
-rows_at stored (InNewStore path) = option_map (λ rows. []) (stored path)
-rows_at stored (InStore path) = stored path
+-- A task begins with these rows: those that the store holds which is there, and else none.
+abbrev pub BeginsWith : (List ℕ → List Row → Type 0) → RowsPlace → List Row → Type 0
+BeginsWith stored InMemory rows = rows ≡ []
+BeginsWith stored (InNewStore path) rows = rows ≡ []
+BeginsWith stored (InStore path) rows = (held : List Row) → stored path held → rows ≡ held
+
+-- It is so as far as what kept the rows returned what was written: tables were left that say whether they did.
+abbrev pub AsFarAsHonest : {Tables : Type 0} → (Tables → State) → Type 0 → Type 0
+AsFarAsHonest {Tables} state IsSo = (tables : Tables) × ((state tables).honest → IsSo)
+
+-- The rows are as they were, as far as these tables are still honest.
+abbrev pub AreOnlyRead : State → State → Type 0
+AreOnlyRead old new = new.honest → old.honest × (new.rows ≡ old.rows)
+
+-- It is so of rows at a place, in a file as far as these are honest. Rows in memory always are.
+abbrev pub AsFarAsKept : {File : Type 0} → (File → State) → RowsPlace → Type 0 → Type 0
+AsFarAsKept state InMemory IsSo = IsSo
+AsFarAsKept state (InNewStore path) IsSo = AsFarAsHonest state IsSo
+AsFarAsKept state (InStore path) IsSo = AsFarAsHonest state IsSo
+
+-- It is so of the rows that a task begins with.
+abbrev pub IsOver : {File : Type 0} → (File → State) → (List ℕ → List Row → Type 0) → RowsPlace
+    → (List Row → Type 0) → Type 0
+IsOver state stored place IsSo =
+    (first : List Row) × AsFarAsKept state place (BeginsWith stored place first × IsSo first)
 
 -- The output of a task: for a replay the replies, and for a report how many rows each institution has after the events.
 abbrev pub text_of : Task → List Institution → List Row → List Event → List ℕ
@@ -278,14 +298,14 @@ IsInStore InMemory = ⊥
 IsInStore (InNewStore path) = Unit {0}
 IsInStore (InStore path) = Unit {0}
 
--- Where rows are kept in a store, one was closed, with rows that are so.
-abbrev pub ClosesAt : RowsPlace → (List Row → Type 0) → (List Row → Type 0) → Type 0
-ClosesAt place closed AreSo = IsInStore place → (kept : List Row) × closed kept × AreSo kept
-
--- the rows are those after the events, where the rows before them are known
-abbrev pub AreAfter : Option (List Row) → List Institution → List Event → List Row → Type 0
-AreAfter first institutions events kept =
-    IfSome first (λ rows. kept ≡ (world_after institutions rows events).rows)
+-- A task printed its whole text. If its rows are kept in a store, that was closed with the rows after the events.
+abbrev pub IsTaskDone : {File : Type 0} → (File → State) → (List ℕ → List Row → Type 0)
+    → (List Row → Type 0) → Option (List ℕ) → Option (List ℕ) → RowsPlace → Task → List Institution
+    → List Event → Type 0
+IsTaskDone state stored closed before after place task institutions events =
+    (kept : List Row) × (IsInStore place → closed kept) × IsOver state stored place (λ rows.
+    Appends before after (text_of task institutions rows events)
+    × (kept ≡ (world_after institutions rows events).rows))
 
 -- how it is cut short
 abbrev pub CutsTask : Task → Option (List ℕ) → Option (List ℕ) → List Institution → List Row
@@ -318,26 +338,25 @@ IsBy held file input IsSo = (institutions : List Institution) × (events : List 
 abbrev pub HasConfig : (List ℕ → Option (List ℕ)) → Option (List ℕ) → Type 0
 HasConfig held file = (institutions : List Institution) × IsConfigured held file institutions
 
--- A task printed its whole text. Where rows are kept in a store it is then closed: its database file
--- has all rows alone, those after the events.
-abbrev pub IsReplayed : (List ℕ → Option (List ℕ)) → (List ℕ → Option (List Row))
-    → (List Row → Type 0) → Option (List ℕ) → Option (List ℕ) → Option (List ℕ) → Request → Type 0
-IsReplayed held stored closed input before after request =
-    IsBy held request.config input (λ institutions events.
-    IfSome (rows_at stored request.place) (λ rows.
-    Appends before after (text_of request.task institutions rows events))
-    × ClosesAt request.place closed (AreAfter (rows_at stored request.place) institutions events))
+-- A task was done by the configuration and the capture. A store that is closed has all rows alone in its
+-- database file.
+abbrev pub IsReplayed : {File : Type 0} → (File → State) → (List ℕ → Option (List ℕ))
+    → (List ℕ → List Row → Type 0) → (List Row → Type 0) → Option (List ℕ) → Option (List ℕ)
+    → Option (List ℕ) → Request → Type 0
+IsReplayed state held stored closed input before after request =
+    IsBy held request.config input
+    (IsTaskDone state stored closed before after request.place request.task)
 
 -- The reasons why a task stops: a refused configuration, capture or store, when nothing was printed; an early end; or a
 -- store that is not closed, when all was printed.
-module _ (request : Request) (file_fails : List ℕ → Type 0) (held : List ℕ → Option (List ℕ))
-    (stored : List ℕ → Option (List Row)) (input_fails : Type 0) (input : Option (List ℕ))
-    (fails : Type 0) (before after : Option (List ℕ)) where
+module _ {File : Type 0} (state : File → State) (request : Request) (file_fails : List ℕ → Type 0)
+    (held : List ℕ → Option (List ℕ)) (stored : List ℕ → List Row → Type 0) (input_fails : Type 0)
+    (input : Option (List ℕ)) (fails : Type 0) (before after : Option (List ℕ)) where
   abbrev pub EndsPlay : Stop → List Institution → List Event → Type 0
   EndsPlay cause institutions events = (Keeps before after × RefusesStore cause)
-      ⊎ (EndsTask fails cause × IfSome (rows_at stored request.place) (λ rows.
+      ⊎ (EndsTask fails cause × IsOver state stored request.place (λ rows.
       CutsTask request.task before after institutions rows events cause))
-      ⊎ (IsInStore request.place × (cause ≡ unclosed_store) × IfSome (rows_at stored request.place)
+      ⊎ (IsInStore request.place × (cause ≡ unclosed_store) × IsOver state stored request.place
       (λ rows. Appends before after (text_of request.task institutions rows events)))
 
   abbrev pub StopsPlay : Stop → Type 0

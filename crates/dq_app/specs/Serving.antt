@@ -3,11 +3,14 @@ use Rattle.std.specs.Prelude.{◌≡◌, ◌⊎◌, ◌≤◌, ◌^◌, ◌-◌,
 use Rattle.std.specs.Duration.{as_nanos}
 use Rattle.std.specs.List.{flat_map}
 use Rattle.std.specs.Io.KnownBytes.{Keeps, Appends}
+use Rattle.std.specs.Net.Grammar.{IsIpText}
+use Rattle.std.specs.declared.net.ip_addr.IpAddr.{IpAddr}
 use Rattle.dq_config.specs.declared.config.Institution.{Institution}
 use Rattle.dq_core.specs.declared.fault.Fault.TheVariants as fault
 use Rattle.dq_core.specs.Faults.{server_fault_number as fault_number}
 use Rattle.dq_core.specs.Shared.{replies}
 use Rattle.dq_tables.specs.declared.row.Row.{Row}
+use Rattle.dq_tables.specs.TableStates.{State}
 use Rattle.dq_wires.specs.declared.calls.Call.{Call}
 use Rattle.dq_wires.specs.declared.given_up.Limits.{Limits}
 use Rattle.dq_wires.specs.Logs.{LogsAll}
@@ -15,12 +18,13 @@ use Rattle.dq_wires.specs.Steps.{replies_of}
 use Rattle.dq_wires.specs.Turns.{Turn, Cut, IsCut, cut_calls}
 use Rattle.dq_wires.specs.Turns.Cut.{NoRoom, AcceptFailed}
 use Rattle.dq_wires.specs.Servings.{Act, act_calls, nothing_held, AreActs, after_acts, served_steps, served_events}
-use Rattle.dq_cli.specs.CommandLine.{clients_of, Serving as Service}
+use Rattle.dq_cli.specs.CommandLine.{clients_of, RowsPlace, InMemory, InNewStore, InStore, Serving as Service}
 use Rattle.dq_wires.specs.Servings.Act.{Turned}
 use Rattle.dq_app.specs.declared.stop.Stop.{Stop}
 use Rattle.dq_app.specs.declared.stop.Stop.TheVariants as stop
 use Rattle.dq_console.specs.Console.{HeldClient, Attending, IsAttending, attending_acts, attending_calls, after_attending, Interruption, IsInterruption, interruption_acts, interruption_calls, rows_after, VisitsTell, AttendingTells}
-use Rattle.dq_app.specs.Program.{no_memory, IsRunFault, IsConfigured, RefusesFile, RefusesStore, IsInStore, rows_at, ClosesAt, unclosed_store}
+use Rattle.dq_console.specs.ServiceProgress.{AreHonest}
+use Rattle.dq_app.specs.Program.{no_memory, IsRunFault, IsConfigured, RefusesFile, RefusesStore, IsInStore, IsOver, unclosed_store}
 use Rattle.dq_captures.specs.ReplyLines.{numbered_line}
 use Rattle.dq_captures.specs.Reports.{names_of}
 use Rattle.dq_captures.specs.Surroundings.{BreaksOff}
@@ -39,6 +43,12 @@ turn_count (Some turns) = turns
 -- a count, where it is limited: 0 is no limit
 abbrev pub limit_of : ℕ → Option ℕ
 limit_of count = if nat_lt 0 count then Some count else None
+
+-- the address of a proxy, if a text names one
+abbrev pub IsProxyNamed : Option (List ℕ) → Option IpAddr → Type 0
+IsProxyNamed None address = address ≡ None
+IsProxyNamed (Some text) None = ⊥
+IsProxyNamed (Some text) (Some address) = IsIpText text address
 
 -- so many seconds, in nanoseconds
 abbrev pub nanoseconds : ℕ → ℕ
@@ -170,16 +180,16 @@ IsListenError breaks other = ⊥
 
 -- Without a console rounds are plain. With one, over wires which were not called before, the calls
 -- of these are exactly those of its turns: so each order is told by a line that a client sent, and
--- is answered by the line of its reply. A search is answered by what the institution that its line
--- names is shown of the rows as they are then, and a report counts them.
-module _ {Console : Type 0} (log : Console → Option (List Call)) (institutions : List Institution)
-    (rows : List Row) where
+-- is answered by the line of its reply. If all tables of the type that keeps the rows are honest, a search is answered by
+-- what the institution that its line names is shown of the rows as they are then, and a report counts them.
+module _ {Console : Type 0} (log : Console → Option (List Call)) (AreHonestRows : Type 0)
+    (institutions : List Institution) (rows : List Row) where
   abbrev pub HasConsole : Option (List ℕ) → List Round → Type 0
   HasConsole None rounds = ArePlain rounds
   HasConsole (Some path) rounds = (wires : Console) × (left : Console)
       × IsUncalled (log wires) × AreConsoled [] rounds
       × LogsAll (log wires) (log left) (flat_map console_calls rounds)
-      × RoundsTell institutions (names_of institutions) rows [] rounds
+      × (AreHonestRows → RoundsTell institutions (names_of institutions) rows [] rounds)
 
 -- Acts were done, from rows that were there, over wires that were not called before. A cut may follow:
 -- the part of a turn that a fault ends (`NoRoom` is none). The calls are exactly these, and what was
@@ -197,36 +207,38 @@ pub record AreServed {Wired : Type 0} (log : Wired → Option (List Call))
 
 -- So many rounds were made and served. The rows that are kept are those after their events.
 pub record Served {Wired Console : Type 0} (log : Wired → Option (List Call))
-    (console_log : Console → Option (List Call)) (institutions : List Institution) (rows : List Row) (count : ℕ)
-    (console : Option (List ℕ)) (kept : List Row) : Type 0 where
+    (console_log : Console → Option (List Call)) (AreHonestRows : Type 0)
+    (institutions : List Institution) (rows : List Row) (count : ℕ) (console : Option (List ℕ))
+    (kept : List Row) : Type 0 where
   pub rounds : List Round
   pub counted : length rounds ≡ count
   pub served : AreServed log institutions rows (rounds_acts rounds) NoRoom
-  pub consoled : HasConsole console_log institutions rows console rounds
+  pub consoled : HasConsole console_log AreHonestRows institutions rows console rounds
   pub leaves : kept ≡ rows_after institutions rows (rounds_acts rounds)
 
 -- The console of a service that was stopped: its calls are exactly those of the rounds, and of the
 -- part of one, and so is what was told.
-module _ {Console : Type 0} (log : Console → Option (List Call)) (institutions : List Institution)
-    (rows : List Row) where
+module _ {Console : Type 0} (log : Console → Option (List Call)) (AreHonestRows : Type 0)
+    (institutions : List Institution) (rows : List Row) where
   abbrev pub HasConsoleTo : Option (List ℕ) → List Round → Halt → Type 0
   HasConsoleTo None rounds halt = ArePlainTo rounds halt
   HasConsoleTo (Some path) rounds halt = (wires : Console) × (left : Console)
       × IsUncalled (log wires) × AreConsoled [] rounds × IsHalt (clients_left [] rounds) halt
       × LogsAll (log wires) (log left) (flat_map console_calls rounds ++ halt_calls halt)
-      × RoundsTell institutions (names_of institutions) rows [] rounds
-      × HaltTells institutions (names_of institutions) rows (rounds_acts rounds) halt
+      × (AreHonestRows → RoundsTell institutions (names_of institutions) rows [] rounds
+      × HaltTells institutions (names_of institutions) rows (rounds_acts rounds) halt)
 
 -- Rounds were made, at most so many, and the next was stopped, for this cause.
 pub record ServedUpTo {Wired Console : Type 0} (log : Wired → Option (List Call))
-    (console_log : Console → Option (List Call)) (breaks : Type 0) (institutions : List Institution) (rows : List Row) (count : ℕ)
-    (console : Option (List ℕ)) (cause : Stop) : Type 0 where
+    (console_log : Console → Option (List Call)) (AreHonestRows breaks : Type 0)
+    (institutions : List Institution) (rows : List Row) (count : ℕ) (console : Option (List ℕ))
+    (cause : Stop) : Type 0 where
   pub rounds : List Round
   pub most : length rounds ≤ count
   pub halt : Halt
   pub causes : HasCause breaks (halt_cut halt) cause
   pub served : AreServed log institutions rows (rounds_acts rounds ++ halt_acts halt) (halt_cut halt)
-  pub consoled : HasConsoleTo console_log institutions rows console rounds halt
+  pub consoled : HasConsoleTo console_log AreHonestRows institutions rows console rounds halt
 
 -- How a service ends early: for want of memory, for the keys of its web front, or because nobody can
 -- come in, before it was ready; for a cause after it was, and what went before is so; because the output fails, after some octets
@@ -244,18 +256,25 @@ module _ (breaks may_fail : Type 0) (before after : Option (List ℕ)) (port : �
       (stop.Store number ≡ unclosed_store) × Appends before after (ready_text port)
   EndsService other = ⊥
 
-module _ {Wired Console : Type 0} (log : Wired → Option (List Call))
-    (console_log : Console → Option (List Call)) (held : List ℕ → Option (List ℕ)) (stored : List ℕ → Option (List Row))
+-- Whatever keeps rows at a place is honest, as memory is.
+abbrev pub AreHonestAt : {File : Type 0} → (File → State) → RowsPlace → Type 0
+AreHonestAt state InMemory = Unit {0}
+AreHonestAt state (InNewStore path) = AreHonest state
+AreHonestAt state (InStore path) = AreHonest state
+
+module _ {Wired Console File : Type 0} (log : Wired → Option (List Call))
+    (console_log : Console → Option (List Call)) (state : File → State)
+    (held : List ℕ → Option (List ℕ)) (stored : List ℕ → List Row → Type 0)
     (before after : Option (List ℕ)) (serving : Service) where
   -- So many turns were made as are asked for, over wires that had not been called, after the line
   -- was printed, and nothing else. A store that is closed has the rows after them.
   abbrev pub IsServed : (List Row → Type 0) → Type 0
   IsServed closed = Appends before after (ready_text serving.port)
       × ((institutions : List Institution) × IsConfigured held serving.config institutions
-      × IfSome (rows_at stored serving.place) (λ rows. (kept : List Row)
-      × Served log console_log institutions rows (turn_count serving.turns) (clients_of serving) kept
-      × (IsInStore serving.place → closed kept)))
-      × ClosesAt serving.place closed (λ _. Unit {0})
+      × ((kept : List Row) × (IsInStore serving.place → closed kept)
+      × IsOver state stored serving.place (λ rows.
+      Served log console_log (AreHonestAt state serving.place) institutions rows
+      (turn_count serving.turns) (clients_of serving) kept)))
 
   -- The reasons why a service stops: a refused configuration or store, when nothing was printed, or an early end.
   abbrev pub StopsService : Type 0 → (List ℕ → Type 0) → Type 0 → Stop → Type 0
@@ -264,5 +283,6 @@ module _ {Wired Console : Type 0} (log : Wired → Option (List Call))
       ⊎ ((institutions : List Institution) × IsConfigured held serving.config institutions
       × ((Keeps before after × RefusesStore cause)
       ⊎ EndsService breaks may_fail before after serving.port (λ why.
-      IfSome (rows_at stored serving.place) (λ rows. ServedUpTo log console_log breaks
-      institutions rows (turn_count serving.turns) (clients_of serving) why)) cause))
+      IsOver state stored serving.place (λ rows. ServedUpTo log console_log
+      (AreHonestAt state serving.place) breaks institutions rows (turn_count serving.turns)
+      (clients_of serving) why)) cause))

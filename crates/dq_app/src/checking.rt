@@ -8,8 +8,7 @@ ghost use Rattle.dq_config.specs.Faults.{config_fault_number};
 ghost use Rattle.dq_config.specs.declared.fault.ConfigFault.TheVariants.{NoMemory};
 ghost use Rattle.dq_cli.specs.CommandLine.{checking_in};
 ghost use Rattle.dq_app.specs.Places.{IsLineOf};
-ghost use Rattle.dq_app.specs.Program.{IsConfigured, RefusesChecked};
-ghost use Rattle.dq_console.specs.ServiceProgress.{AreHonest};
+ghost use Rattle.dq_app.specs.Program.{IsConfigured, RefusesChecked, AsFarAsHonest};
 ghost use Rattle.dq_app.specs.Checks.{route_line, limit_text, limits_text, institution_lines, check_text, counted_lines, counted_check_text, IsListed, EndsList, IsChecked, StopsCheck};
 
 use crate::placing::line_of_fault;
@@ -177,8 +176,8 @@ fn list_over<T: Tables + Drop>(
     tables: T,
     institutions: &[Institution],
 ) -> Result<Vec<u8>, Fault>
-    ensures lines { AreHonest T.state → IfOk result (λ text. text.items
-        ≡ counted_check_text (T.state tables).rows institutions.now) }
+    ensures lines { IfOk result (λ text. AsFarAsHonest T.state ((T.state tables).honest
+        × (text.items ≡ counted_check_text (T.state tables).rows institutions.now))) }
     ensures fault { IfErr result (λ fault. fault ≢ Fault.Stopped) }
 {
     let mut kept = Kept { tables };
@@ -193,7 +192,7 @@ fn listed<Rt: AllocGlobal + Stores>(
     institutions: &[Institution],
 ) -> Result<Vec<u8>, Stop>
     ensures lines { IfOk result (λ text.
-        IsListed (Rt.stored rt.now) (option_copied store.entry) institutions.now text.items) }
+        IsListed Rt.File.state (Rt.stored rt.now) (option_copied store.entry) institutions.now text.items) }
     ensures ends { IfErr result (EndsList (option_copied store.entry)) }
 {
     match store {
@@ -212,10 +211,10 @@ pub fn check<Rt: AllocGlobal + Folder + Stores, W: Sink>(
     inspection: Inspection<'_>,
     output: &mut W,
 ) -> Result<(), Stop>
-    ensures done { OnOk result (IsChecked (Rt.held rt.now) (Rt.stored rt.now)
+    ensures done { OnOk result (IsChecked Rt.File.state (Rt.held rt.now) (Rt.stored rt.now)
         (W.written output.old) (W.written output.new) (checking_in inspection.entry)) }
     ensures flushed { OnOk result (W.is_flushed output.new) }
-    ensures stops { IfErr result (StopsCheck (Rt.held rt.now) (Rt.stored rt.now)
+    ensures stops { IfErr result (StopsCheck Rt.File.state (Rt.held rt.now) (Rt.stored rt.now)
         (W.written output.old) (W.written output.new) (Rt.may_fail rt.now)
         (W.may_fail output.old) (checking_in inspection.entry)) }
 {

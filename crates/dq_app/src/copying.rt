@@ -1,5 +1,5 @@
 //! A store, copied to a new one.
-ghost use Rattle.std.specs.Prelude.{◌≡◌, List, length, IfErr, IfSome, OnOk};
+ghost use Rattle.std.specs.Prelude.{◌≡◌, List, length, IfErr, OnOk};
 ghost use Rattle.std.specs.Io.KnownBytes.{Appends};
 ghost use Rattle.dq_tables.specs.declared.row.Row.{Row};
 ghost use Rattle.dq_captures.specs.Surroundings.{BreaksOff};
@@ -36,8 +36,7 @@ pub fn copy<Rt: AllocGlobal + Stores, W: Sink>(
     output: &mut W,
 ) -> Result<(), Stop>
     ensures done { OnOk result ((kept : List Row) × Rt.closed rt.now kept
-        × IfSome (Rt.copied rt.now (duplicating_in copying.now).from (duplicating_in copying.now).only)
-        (λ rows. kept ≡ rows)
+        × Rt.copied rt.now (duplicating_in copying.now).from (duplicating_in copying.now).only kept
         × Appends (W.written output.old) (W.written output.new) (copied_line (length kept))) }
     ensures flushed { OnOk result (W.is_flushed output.new) }
     ensures ends { IfErr result

@@ -6,8 +6,7 @@ ghost use Rattle.dq_tables.specs.Lookups.{rows_of};
 ghost use Rattle.dq_tables.specs.Records.{data_set_of};
 ghost use Rattle.dq_tables.specs.Rows.{of};
 ghost use Rattle.dq_cli.specs.CommandLine.{exporting_in};
-ghost use Rattle.dq_app.specs.Program.{Breaks, EndsTask};
-ghost use Rattle.dq_console.specs.ServiceProgress.{AreHonest};
+ghost use Rattle.dq_app.specs.Program.{Breaks, EndsTask, AreOnlyRead};
 ghost use Rattle.dq_console.specs.ConsoleLines.{json_line, json_lines};
 ghost use Rattle.dq_app.specs.Exports.{kind_named, kinds_asked, data_sets_of, exported_data_sets, exported_of, export_text, CutsLines, IsExported, StopsExport};
 
@@ -77,9 +76,9 @@ fn put_rows<W: Sink>(alloc: Global, rows: &[Row], output: &mut W) -> Result<(), 
 
 /// The institution's rows of a kind.
 fn read_kind<T: Tables>(tables: &mut T, name: &[u8], kind: Kind) -> Result<Listed<Row>, Fault>
-    ensures found { AreHonest T.state → IfOk result (λ found.
+    ensures found { (T.state tables.new).honest → IfOk result (λ found.
         found ≡ rows_of kind name.now (T.state tables.old).rows) }
-    ensures kept { AreHonest T.state → (T.state tables.new).rows ≡ (T.state tables.old).rows }
+    ensures kept { AreOnlyRead (T.state tables.old) (T.state tables.new) }
     ensures fault { IfErr result (λ fault. fault ≢ Fault.Stopped) }
 {
     Ok(tables.rows_of(kind, name)?)
@@ -93,12 +92,12 @@ fn put_kind<T: Tables, W: Sink>(
     kind: Kind,
     output: &mut W,
 ) -> Result<(), Stop>
-    ensures done { AreHonest T.state → OnOk result (Appends (W.written output.old)
+    ensures done { (T.state tables.new).honest → OnOk result (Appends (W.written output.old)
         (W.written output.new)
         (json_lines (data_sets_of (of name.now (T.state tables.old).rows) kind))) }
-    ensures kept { AreHonest T.state → (T.state tables.new).rows ≡ (T.state tables.old).rows }
+    ensures kept { AreOnlyRead (T.state tables.old) (T.state tables.new) }
     ensures ends { IfErr result (EndsTask (W.may_fail output.old)) }
-    ensures cut { AreHonest T.state → IfErr result (CutsLines (W.written output.old)
+    ensures cut { (T.state tables.new).honest → IfErr result (CutsLines (W.written output.old)
         (W.written output.new) (data_sets_of (of name.now (T.state tables.old).rows) kind)) }
     ensures fails { W.may_fail output.new → W.may_fail output.old }
 {
@@ -115,12 +114,12 @@ fn put_kinds<T: Tables, W: Sink>(
     kinds: &[Kind],
     output: &mut W,
 ) -> Result<(), Stop>
-    ensures done { AreHonest T.state → OnOk result (Appends (W.written output.old)
+    ensures done { (T.state tables.new).honest → OnOk result (Appends (W.written output.old)
         (W.written output.new)
         (json_lines (exported_data_sets (of name.now (T.state tables.old).rows) kinds.now))) }
-    ensures kept { AreHonest T.state → (T.state tables.new).rows ≡ (T.state tables.old).rows }
+    ensures kept { AreOnlyRead (T.state tables.old) (T.state tables.new) }
     ensures ends { IfErr result (EndsTask (W.may_fail output.old)) }
-    ensures cut { AreHonest T.state → IfErr result (CutsLines (W.written output.old)
+    ensures cut { (T.state tables.new).honest → IfErr result (CutsLines (W.written output.old)
         (W.written output.new) (exported_data_sets (of name.now (T.state tables.old).rows) kinds.now)) }
     ensures fails { W.may_fail output.new → W.may_fail output.old }
 {
@@ -137,12 +136,12 @@ fn put_asked<T: Tables, W: Sink>(
     export: Export<'_>,
     output: &mut W,
 ) -> Result<(), Stop>
-    ensures done { AreHonest T.state → OnOk result (Appends (W.written output.old)
+    ensures done { (T.state tables.new).honest → OnOk result (Appends (W.written output.old)
         (W.written output.new) (json_lines
         (exported_data_sets (of export.entry.only.now (T.state tables.old).rows) (kinds_asked export.entry.kind)))) }
-    ensures kept { AreHonest T.state → (T.state tables.new).rows ≡ (T.state tables.old).rows }
+    ensures kept { AreOnlyRead (T.state tables.old) (T.state tables.new) }
     ensures ends { IfErr result (EndsTask (W.may_fail output.old)) }
-    ensures cut { AreHonest T.state → IfErr result (CutsLines (W.written output.old)
+    ensures cut { (T.state tables.new).honest → IfErr result (CutsLines (W.written output.old)
         (W.written output.new)
         (exported_data_sets (of export.entry.only.now (T.state tables.old).rows) (kinds_asked export.entry.kind))) }
     ensures fails { W.may_fail output.new → W.may_fail output.old }
@@ -161,12 +160,12 @@ fn put_export<T: Tables, W: Sink>(
     export: Export<'_>,
     output: &mut W,
 ) -> Result<(), Stop>
-    ensures done { AreHonest T.state → OnOk result (Appends (W.written output.old)
+    ensures done { (T.state tables.new).honest → OnOk result (Appends (W.written output.old)
         (W.written output.new) (export_text (T.state tables.old).rows (exporting_in export.entry))) }
     ensures flushed { OnOk result (W.is_flushed output.new) }
-    ensures kept { AreHonest T.state → (T.state tables.new).rows ≡ (T.state tables.old).rows }
+    ensures kept { AreOnlyRead (T.state tables.old) (T.state tables.new) }
     ensures ends { IfErr result (EndsTask (W.may_fail output.old)) }
-    ensures cut { AreHonest T.state → IfErr result (CutsLines (W.written output.old)
+    ensures cut { (T.state tables.new).honest → IfErr result (CutsLines (W.written output.old)
         (W.written output.new) (exported_of (T.state tables.old).rows (exporting_in export.entry))) }
 {
     put_asked(alloc, tables, export, output)?;
@@ -183,10 +182,10 @@ pub fn export_rows<Rt: AllocGlobal + Stores, W: Sink>(
     export: Export<'_>,
     output: &mut W,
 ) -> Result<(), Stop>
-    ensures done { OnOk result (IsExported (Rt.stored rt.now) (W.written output.old)
+    ensures done { OnOk result (IsExported Rt.File.state (Rt.stored rt.now) (W.written output.old)
         (W.written output.new) (Rt.closed rt.now) (exporting_in export.entry)) }
     ensures flushed { OnOk result (W.is_flushed output.new) }
-    ensures stops { IfErr result (StopsExport (Rt.stored rt.now) (W.written output.old)
+    ensures stops { IfErr result (StopsExport Rt.File.state (Rt.stored rt.now) (W.written output.old)
         (W.written output.new) (W.may_fail output.old) (exporting_in export.entry)) }
 {
     let mut tables = rt.store(rt.alloc(), export.store)?;

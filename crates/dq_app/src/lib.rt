@@ -7,6 +7,7 @@ mod backup;
 mod checking;
 mod copying;
 mod exporting;
+mod key_files;
 pub mod laws;
 mod looping;
 mod migrating;

@@ -1,5 +1,5 @@
 //! A store of the version before, made anew.
-ghost use Rattle.std.specs.Prelude.{◌≡◌, List, IfErr, IfSome, OnOk};
+ghost use Rattle.std.specs.Prelude.{List, IfErr, OnOk};
 ghost use Rattle.std.specs.Io.KnownBytes.{Appends};
 ghost use Rattle.dq_tables.specs.declared.row.Row.{Row};
 ghost use Rattle.dq_app.specs.Program.{migrated_line, EndsMigration};
@@ -22,8 +22,8 @@ pub fn migrate<Rt: AllocGlobal + Stores, W: Sink>(
 ) -> Result<(), Stop>
     ensures done { OnOk result
         (Appends (W.written output.old) (W.written output.new) migrated_line) }
-    ensures made { OnOk result ((kept : List Row) × Rt.closed rt.now kept × IfSome
-        (Rt.migrated rt.now files.entry.from.now) (λ rows. kept ≡ rows)) }
+    ensures made { OnOk result ((kept : List Row) × Rt.closed rt.now kept
+        × Rt.migrated rt.now files.entry.from.now kept) }
     ensures flushed { OnOk result (W.is_flushed output.new) }
     ensures ends { IfErr result
         (EndsMigration (W.may_fail output.old) (W.written output.old) (W.written output.new)) }

@@ -1,20 +1,22 @@
 //! Where connections come in.
-ghost use Rattle.std.specs.Prelude.{◌≡◌, ℕ, List, [], Option, option_map, IfOk, IfSome, IsErrOf, OnErr};
+ghost use Rattle.std.specs.Prelude.{◌≡◌, ℕ, List, [], Option, Some, option_map, IfOk, IfSome, IsErrOf, OnErr};
 ghost use Rattle.std.specs.Option.{option_copied};
 ghost use Rattle.dq_cli.specs.CommandLine.{WebFront, web_front_in};
-ghost use Rattle.dq_web.specs.KeyFiles.{AreSpelled};
+ghost use Rattle.dq_web.specs.KeyFiles.{key_lines, AreSpelled};
 ghost use Rattle.dq_wires.specs.declared.given_up.Limits.{Limits};
-ghost use Rattle.dq_app.specs.Serving.{limit_of};
+ghost use Rattle.dq_app.specs.Entrances.{IsConsoleAt, IsFrontFor};
+ghost use Rattle.dq_app.specs.Serving.{limit_of, IsProxyNamed};
 
+use crate::key_files::keys_of;
 use crate::server_sockets::{AssociationSockets, ConsoleSockets, Counted, HttpSockets};
-use dq_captures::{Folder, Host, Unread};
+use dq_captures::{Folder, Host};
 use dq_cli::{VERSION, Web};
 use dq_config::Institution;
-use dq_console::Asks;
+use dq_console::{Asks, KeysError};
 use dq_http::{HttpServer, HttpState};
 use dq_list::Listed;
 use dq_tables::Tables;
-use dq_web::{Guard, Keys, KeysFault};
+use dq_web::Guard;
 use dq_wires::{AssociationLog, Called, Limits, LogEnd, LoggedWires, SocketWires, Turner, Wires};
 use std::alloc::{AllocError, Global};
 use std::io;
@@ -64,13 +66,18 @@ pub struct Listening<'a> {
     pub log: Option<Logging<'a>>,
 }
 
-impl From<KeysFault> for ListenError {
-    ghost from_gives = { λ _ _. Unit {0} };
+impl From<KeysError> for ListenError {
+    ghost use Rattle.std.specs.Prelude.{◌≡◌};
+    ghost use Rattle.dq_app.specs.Entrances.{listen_error_of_keys};
 
-    fn from(fault: KeysFault) -> ListenError {
-        match fault {
-            KeysFault::Line(line) => ListenError::Keys(line),
-            KeysFault::NoMemory => ListenError::NoMemory,
+    ghost from_gives = { λ error listen_error. listen_error ≡ listen_error_of_keys error };
+
+    fn from(error: KeysError) -> ListenError {
+        match error {
+            KeysError::NoFront => ListenError::Failed,
+            KeysError::Failed => ListenError::Keys(0),
+            KeysError::Line(line) => ListenError::Keys(line),
+            KeysError::NoMemory => ListenError::NoMemory,
         }
     }
 }
@@ -218,13 +225,12 @@ pub(crate) fn connections_of(count: u32) -> Option<usize>
     Some(count as usize)
 }
 
-// Has those who say nothing for so many seconds let go, and at once those of whose address there are
-// as many as may be.
-fn limit_clients(wires: &mut SocketWires, quiet: u64, peer_connections: Option<usize>) {
+// Has those who say nothing for so many seconds let go.
+fn limit_clients(wires: &mut SocketWires, quiet: u64) {
     wires.set_limits(Limits {
         artim: None,
         quiet: Some(Duration::from_secs(quiet)),
-        peer_connections,
+        peer_connections: None,
     });
 }
 
@@ -232,53 +238,80 @@ fn limit_clients(wires: &mut SocketWires, quiet: u64, peer_connections: Option<u
 fn console_at(alloc: Global, rt: &HostRuntime, path: &str) -> Result<SocketWires, ListenError> {
     match SocketWires::listen_at(alloc, rt, path) {
         Ok(mut wires) => {
-            limit_clients(&mut wires, CONSOLE_QUIET, None);
+            limit_clients(&mut wires, CONSOLE_QUIET);
             Ok(wires)
         }
         Err(error) => Err(listen_error_of(&error)),
     }
 }
 
-/// The keys of a file.
-fn keys_of<F: Folder>(alloc: Global, folder: &F, path: &str) -> Result<Keys, ListenError>
-    ensures { IfOk result (λ keys. IfSome (F.held folder.now path.now) (λ octets.
-        AreSpelled octets keys.entries)) }
+/// The sockets of the console, if there is a path.
+fn console_for(
+    alloc: Global,
+    rt: &HostRuntime,
+    path: Option<&str>,
+) -> Result<Option<SocketWires>, ListenError>
+    ensures { IfOk result (λ console. IsConsoleAt console (option_copied path.entry)) }
 {
-    let octets = match folder.read_file(alloc, path) {
-        Ok(octets) => octets,
-        Err(Unread::NoMemory) => return Err(ListenError::NoMemory),
-        Err(Unread::Failed) => return Err(ListenError::Keys(0)),
-    };
-    let Ok(text) = str::from_utf8(octets.as_slice()) else {
-        return Err(ListenError::Keys(0));
-    };
-    match Keys::read(alloc, text) {
-        Ok(keys) => Ok(keys),
-        Err(fault) => Err(ListenError::from(fault)),
+    match path {
+        Some(path) => Ok(Some(console_at(alloc, rt, path)?)),
+        None => Ok(None),
     }
 }
 
-/// The guard of a web front: the keys of its file, and its host.
-fn guard_of<F: Folder>(alloc: Global, folder: &F, web: Web<'_>) -> Result<Guard, ListenError>
-    ensures keys { IfOk result (λ guard. IfSome (F.held folder.now web.entry.keys.now) (λ octets.
-        AreSpelled octets guard.keys.entries)) }
-    ensures host { IfOk result (λ guard. guard.host ≡ option_copied web.entry.host) }
+/// The octets of a text, if there is one.
+fn octets_of(alloc: Global, text: Option<&str>) -> Result<Option<Listed<u8>>, AllocError>
+    ensures { IfOk result (λ octets. octets ≡ option_copied text.entry) }
 {
-    let keys = keys_of(alloc, folder, web.keys)?;
-    let host = match web.host {
-        Some(host) => Some(Listed::copy_of(alloc, host.as_bytes())?),
-        None => None,
-    };
-    Ok(Guard { keys, host })
+    match text {
+        Some(text) => Ok(Some(Listed::copy_of(alloc, text.as_bytes())?)),
+        None => Ok(None),
+    }
 }
 
-// The web front of institutions.
+/// The address of the proxy before a web front, if one is named.
+fn proxy_of(web: Web<'_>) -> Result<Option<IpAddr>, ListenError>
+    ensures { IfOk result (IsProxyNamed (option_copied web.entry.proxy)) }
+{
+    let Some(text) = web.proxy else {
+        return Ok(None);
+    };
+    match text.parse::<IpAddr>() {
+        Ok(address) => Ok(Some(address)),
+        Err(_) => Err(ListenError::Failed),
+    }
+}
+
+/// The guard of a web front: the keys of its file, its host, the origin of its viewer, and the address of
+/// its proxy.
+fn guard_of<F: Folder>(alloc: Global, folder: &F, web: Web<'_>) -> Result<Guard, ListenError>
+    ensures keys { IfOk result (λ guard. IfSome (F.held folder.now web.entry.keys.now) (λ octets.
+        AreSpelled (key_lines octets) guard.keys.entries)) }
+    ensures host { IfOk result (λ guard. guard.host ≡ option_copied web.entry.host) }
+    ensures viewer { IfOk result (λ guard. guard.viewer ≡ option_copied web.entry.origin) }
+    ensures proxy { IfOk result (λ guard. IsProxyNamed (option_copied web.entry.proxy) guard.proxy) }
+{
+    let keys = keys_of(alloc, folder, web.keys)?;
+    let host = octets_of(alloc, web.host)?;
+    let viewer = octets_of(alloc, web.origin)?;
+    let proxy = proxy_of(web)?;
+    Ok(Guard {
+        keys,
+        host,
+        viewer,
+        proxy,
+    })
+}
+
+/// The web front of institutions.
 fn front_at<H: Host>(
     alloc: Global,
     host: &H,
     web: Web<'_>,
     institutions: &[Institution],
-) -> Result<HttpServer<SocketWires>, ListenError> {
+) -> Result<HttpServer<SocketWires>, ListenError>
+    ensures { IfOk result (λ front. IsFrontFor (Some front) (Some (web_front_in web.entry))) }
+{
     let state = HttpState::new(alloc, guard_of(alloc, host, web)?, institutions)?;
     let rt = host.runtime();
     let Ok(address) = web.address.parse::<IpAddr>() else {
@@ -286,12 +319,30 @@ fn front_at<H: Host>(
     };
     let mut wires = sockets_at(alloc, rt, address, web.port)?;
     let peers = connections_of(web.peer_connections);
-    limit_clients(&mut wires, WEB_QUIET, peers);
-    Ok(HttpServer::new(rt, wires, state)?)
+    limit_clients(&mut wires, WEB_QUIET);
+    Ok(HttpServer::new(rt, wires, state, peers)?)
+}
+
+/// The web front of institutions, if it is asked for.
+fn front_for<H: Host>(
+    alloc: Global,
+    host: &H,
+    web: Option<Web<'_>>,
+    institutions: &[Institution],
+) -> Result<Option<HttpServer<SocketWires>>, ListenError>
+    ensures { IfOk result (λ front. IsFrontFor front (option_map web_front_in web.entry)) }
+{
+    match web {
+        Some(web) => Ok(Some(front_at(alloc, host, web, institutions)?)),
+        None => Ok(None),
+    }
 }
 
 // Has a rest over sockets end where something may be done on others.
-fn watch(sockets: &mut AssociationSockets, others: &SocketWires) -> Result<(), ListenError> {
+fn watch(
+    sockets: &mut AssociationSockets<SocketWires>,
+    others: &SocketWires,
+) -> Result<(), ListenError> {
     match sockets.logged.wires.watch(others) {
         Ok(()) => Ok(()),
         Err(error) => Err(listen_error_of(&error)),
@@ -299,9 +350,9 @@ fn watch(sockets: &mut AssociationSockets, others: &SocketWires) -> Result<(), L
 }
 
 impl<H: Host> Network for H {
-    type Wired = AssociationSockets;
+    type Wired = AssociationSockets<SocketWires>;
 
-    type Console = ConsoleSockets;
+    type Console = ConsoleSockets<SocketWires>;
 
     type Http = HttpSockets;
 
@@ -309,7 +360,9 @@ impl<H: Host> Network for H {
 
     ghost listens = { λ _ _ _ _. Unit {0} };
 
-    ghost admits = { λ _ _ _ _. Unit {0} };
+    // That they come in at the path and the port, and with which keys, no contract of the system says.
+    ghost admits = { λ console http path web.
+        IsConsoleAt console.wires path × IsFrontFor http.front web };
 
     fn listen(&self, alloc: Global, listening: Listening<'_>) -> Result<Self::Wired, ListenError> {
         let Ok(address) = listening.address.parse::<IpAddr>() else {
@@ -334,22 +387,23 @@ impl<H: Host> Network for H {
         institutions: &[Institution],
         wires: &mut Self::Wired,
     ) -> Result<(Self::Console, Self::Http), ListenError> {
-        let console = match entrance.console {
-            Some(path) => Some(console_at(alloc, self.runtime(), path)?),
-            None => None,
-        };
+        let console = console_for(alloc, self.runtime(), entrance.console)?;
         if let Some(console) = &console {
             watch(wires, console)?;
         }
-        let front = match entrance.web {
-            Some(web) => Some(front_at(alloc, self, web, institutions)?),
-            None => None,
-        };
+        let front = front_for(alloc, self, entrance.web, institutions)?;
         if let Some(front) = &front {
             watch(wires, &front.wires)?;
             wires.counted = Some(Counted::new(alloc));
         }
-        Ok((ConsoleSockets { wires: console }, HttpSockets { front }))
+        let keys = match entrance.web {
+            Some(web) => String::from_str(alloc, web.keys)?,
+            None => String::new(alloc),
+        };
+        Ok((
+            ConsoleSockets { wires: console },
+            HttpSockets::new(alloc, self.runtime(), front, keys),
+        ))
     }
 
     fn rest(&self, wires: &mut Self::Wired, most: Duration) -> io::Result<()> {
@@ -366,11 +420,14 @@ impl<H: Host> Network for H {
         most: Duration,
     ) -> io::Result<()> {
         front.attend(wires, self.runtime());
+        wires.mark_served(console.is_busy());
         let is_busy = console.is_busy() || front.is_busy();
         let most = if is_busy { Duration::ZERO } else { most };
         console.begin_turn();
         front.begin_turn();
+        wires.end_turn(self.runtime());
         let rested = wires.logged.wires.rest_beside(self.runtime(), most);
+        wires.begin_turn(self.runtime());
         wires.logged.read_clock(self.runtime());
         let is_called = rested?;
         console.look(self.runtime(), is_called)?;

@@ -1,6 +1,6 @@
 //! The program without its surroundings: words, a configuration, an input, stores and two outputs,
 //! and the exit status.
-ghost use Rattle.std.specs.Prelude.{◌≡◌, ◌≢◌, ◌≤◌, ◌⊎◌, List, None, Some, false, map, IsTrue, IfOk, IfErr, IfSome, OnOk};
+ghost use Rattle.std.specs.Prelude.{◌≡◌, ◌≢◌, ◌≤◌, ◌⊎◌, None, Some, false, map, IsTrue, IfOk, IfErr, OnOk};
 ghost use Rattle.std.specs.IoError.{error_kind};
 ghost use Rattle.std.specs.Io.KnownBytes.{Keeps, Appends};
 ghost use Rattle.clap.specs.Words.{kind_of};
@@ -8,8 +8,7 @@ ghost use Rattle.dq_core.specs.Histories.{is_well_formed_history};
 ghost use Rattle.dq_core.specs.Shared.{world_after};
 ghost use Rattle.dq_captures.specs.Surroundings.{BreaksOff};
 ghost use Rattle.dq_cli.specs.CommandLine.{Command, command_asked, place_asked, request_asked, command_in};
-ghost use Rattle.dq_app.specs.Program.{no_memory, status_of, IsTold, no_text_line, RefusesStore, EndsTask, CutsTask, StopsPlay, IsReplayed, rows_at, text_of, IsInStore, ClosesAt, AreAfter, unclosed_store};
-ghost use Rattle.dq_console.specs.ServiceProgress.{AreHonest};
+ghost use Rattle.dq_app.specs.Program.{no_memory, status_of, IsTold, no_text_line, RefusesStore, EndsTask, CutsTask, StopsPlay, IsReplayed, AsFarAsHonest, IsOver, IsTaskDone, text_of, IsInStore, unclosed_store};
 ghost use Rattle.dq_app.specs.Commands.{IsDone, EndsEarly};
 
 use crate::checking::check;
@@ -43,14 +42,16 @@ fn do_task<T: Tables + Drop, W: Sink>(
 ) -> Result<T, Stop>
     requires formed { IsTrue (is_well_formed_history history.events.items) }
     requires unfailed { (T.state tables).failed ≡ false }
-    ensures kept { AreHonest T.state → IfOk result (λ kept. (T.state kept).rows
+    ensures kept { IfOk result (λ kept. (T.state kept).honest → (T.state kept).rows
         ≡ (world_after history.config (T.state tables).rows history.events.items).rows) }
-    ensures done { AreHonest T.state → OnOk result (Appends (W.written output.old)
+    ensures done { IfOk result (λ kept. (T.state kept).honest → Appends (W.written output.old)
         (W.written output.new) (text_of task history.config (T.state tables).rows history.events.items)) }
+    ensures was_honest { IfOk result (λ kept. (T.state kept).honest → (T.state tables).honest) }
     ensures flushed { OnOk result (W.is_flushed output.new) }
     ensures ends { IfErr result (EndsTask (W.may_fail output.old)) }
-    ensures cut { AreHonest T.state → IfErr result (CutsTask task (W.written output.old)
-        (W.written output.new) history.config (T.state tables).rows history.events.items) }
+    ensures cut { IfErr result (λ stop. AsFarAsHonest T.state ((T.state tables).honest
+        × CutsTask task (W.written output.old) (W.written output.new) history.config
+        (T.state tables).rows history.events.items stop)) }
 {
     match task {
         Task::Replay => answer(alloc, history, tables, output),
@@ -66,21 +67,18 @@ fn do_over<Rt: AllocGlobal + Stores, W: Sink>(
     output: &mut W,
 ) -> Result<(), Stop>
     requires { IsTrue (is_well_formed_history history.events.items) }
-    ensures done { OnOk result (IfSome (rows_at (Rt.stored rt.now) (place_asked asked.entry.keeper))
-        (λ rows. Appends (W.written output.old) (W.written output.new)
-        (text_of asked.entry.task history.config rows history.events.items))) }
-    ensures closed { OnOk result (ClosesAt (place_asked asked.entry.keeper) (Rt.closed rt.now)
-        (AreAfter (rows_at (Rt.stored rt.now) (place_asked asked.entry.keeper)) history.config
-        history.events.items)) }
+    ensures done { OnOk result (IsTaskDone Rt.File.state (Rt.stored rt.now) (Rt.closed rt.now)
+        (W.written output.old) (W.written output.new) (place_asked asked.entry.keeper)
+        asked.entry.task history.config history.events.items) }
     ensures flushed { OnOk result (W.is_flushed output.new) }
     ensures stops { IfErr result (λ stop.
         (Keeps (W.written output.old) (W.written output.new) × RefusesStore stop)
         ⊎ (EndsTask (W.may_fail output.old) stop
-        × IfSome (rows_at (Rt.stored rt.now) (place_asked asked.entry.keeper)) (λ rows.
+        × IsOver Rt.File.state (Rt.stored rt.now) (place_asked asked.entry.keeper) (λ rows.
         CutsTask asked.entry.task (W.written output.old) (W.written output.new) history.config rows
         history.events.items stop))
         ⊎ (IsInStore (place_asked asked.entry.keeper) × (stop ≡ unclosed_store)
-        × IfSome (rows_at (Rt.stored rt.now) (place_asked asked.entry.keeper)) (λ rows.
+        × IsOver Rt.File.state (Rt.stored rt.now) (place_asked asked.entry.keeper) (λ rows.
         Appends (W.written output.old) (W.written output.new)
         (text_of asked.entry.task history.config rows history.events.items)))) }
 {
@@ -111,12 +109,12 @@ fn play<Rt: AllocGlobal + Folder + Stores, R: Source, W: Sink>(
     input: R,
     output: &mut W,
 ) -> Result<(), Stop>
-    ensures done { OnOk result (IsReplayed (Rt.held rt.now) (Rt.stored rt.now) (Rt.closed rt.now)
-        (R.octets input) (W.written output.old) (W.written output.new)
+    ensures done { OnOk result (IsReplayed Rt.File.state (Rt.held rt.now) (Rt.stored rt.now)
+        (Rt.closed rt.now) (R.octets input) (W.written output.old) (W.written output.new)
         (request_asked asked.entry)) }
     ensures flushed { OnOk result (W.is_flushed output.new) }
-    ensures stops { IfErr result (StopsPlay (request_asked asked.entry) (Rt.may_fail rt.now)
-        (Rt.held rt.now) (Rt.stored rt.now) (R.may_fail input) (R.octets input)
+    ensures stops { IfErr result (StopsPlay Rt.File.state (request_asked asked.entry)
+        (Rt.may_fail rt.now) (Rt.held rt.now) (Rt.stored rt.now) (R.may_fail input) (R.octets input)
         (W.may_fail output.old) (W.written output.old) (W.written output.new)) }
 {
     let config = configured(rt, asked.config)?;
@@ -132,11 +130,11 @@ fn do_command<Rt: AllocGlobal + Folder + Stores + Network, R: Source, W: Sink>(
     output: &mut W,
 ) -> Result<(), Stop>
     ensures flushed { OnOk result (W.is_flushed output.new) }
-    ensures done { OnOk result (IsDone Rt.Wired.log Rt.Console.log (Rt.held rt.now) (Rt.stored rt.now)
-        (Rt.migrated rt.now) (Rt.copied rt.now) (Rt.closed rt.now) (R.octets input)
-        (W.written output.old) (W.written output.new) (command_in parsed.entry)) }
-    ensures stops { IfErr result (EndsEarly Rt.Wired.log Rt.Console.log (Rt.held rt.now) (Rt.stored rt.now)
-        (R.octets input) (W.written output.old) (W.written output.new) (Rt.may_fail rt.now)
+    ensures done { OnOk result (IsDone Rt.Wired.log Rt.Console.log Rt.File.state (Rt.held rt.now)
+        (Rt.stored rt.now) (Rt.migrated rt.now) (Rt.copied rt.now) (Rt.closed rt.now)
+        (R.octets input) (W.written output.old) (W.written output.new) (command_in parsed.entry)) }
+    ensures stops { IfErr result (EndsEarly Rt.Wired.log Rt.Console.log Rt.File.state (Rt.held rt.now)
+        (Rt.stored rt.now) (R.octets input) (W.written output.old) (W.written output.new) (Rt.may_fail rt.now)
         (R.may_fail input) (W.may_fail output.old) (Rt.may_break rt.now) (command_in parsed.entry)) }
 {
     match parsed {
@@ -194,15 +192,15 @@ pub fn perform<Rt: AllocGlobal + Folder + Stores + Network, S: AsStr, R: Source,
     ensures refused { command_asked (map S.text words.now) ≡ None → (result ≡ 1) ⊎ (result ≡ 4) }
     // At 0 all was done that the words ask for.
     ensures done { (command : Command) → command_asked (map S.text words.now) ≡ Some command → result ≡ 0 →
-        IsDone Rt.Wired.log Rt.Console.log (Rt.held rt.now) (Rt.stored rt.now) (Rt.migrated rt.now)
-        (Rt.copied rt.now) (Rt.closed rt.now) (R.octets input) (W.written output.old)
-        (W.written output.new) command }
+        IsDone Rt.Wired.log Rt.Console.log Rt.File.state (Rt.held rt.now) (Rt.stored rt.now)
+        (Rt.migrated rt.now) (Rt.copied rt.now) (Rt.closed rt.now) (R.octets input)
+        (W.written output.old) (W.written output.new) command }
     // At any other status it stopped short of its end, as is told, and this is what was done.
     ensures stops { (command : Command) → command_asked (map S.text words.now) ≡ Some command → result ≢ 0 →
         (stop : Stop) × (result ≡ status_of stop)
         × IsTold (E.may_fail errors.old) (E.written errors.old) (E.written errors.new) stop
-        × EndsEarly Rt.Wired.log Rt.Console.log (Rt.held rt.now) (Rt.stored rt.now) (R.octets input)
-        (W.written output.old) (W.written output.new) (Rt.may_fail rt.now) (R.may_fail input)
+        × EndsEarly Rt.Wired.log Rt.Console.log Rt.File.state (Rt.held rt.now) (Rt.stored rt.now)
+        (R.octets input) (W.written output.old) (W.written output.new) (Rt.may_fail rt.now) (R.may_fail input)
         (W.may_fail output.old) (Rt.may_break rt.now) command stop }
 {
     let line = match line_of(rt.alloc(), words) {
@@ -218,15 +216,22 @@ pub fn perform<Rt: AllocGlobal + Folder + Stores + Network, S: AsStr, R: Source,
     }
 }
 
-/// Runs the program as `perform` does. It says nothing of it, so that the proof of who calls it for one
-/// machine does not read what `perform` says of any.
+/// Runs the program as `perform` does. It says nothing of the machine, so that the proof of who calls
+/// it for one machine does not read what `perform` says of any.
 pub fn play_on<Rt: AllocGlobal + Folder + Stores + Network, S: AsStr, R: Source, W: Sink, E: Sink>(
     rt: &Rt,
     words: &[S],
     input: R,
     output: &mut W,
     errors: &mut E,
-) -> u8 {
+) -> u8
+    ensures statuses { result ≤ 5 }
+    ensures flushed { result ≡ 0 → W.is_flushed output.new }
+    ensures quiet { result ≡ 0 → Keeps (E.written errors.old) (E.written errors.new) }
+    ensures usage { result ≡ 1 → (command_asked (map S.text words.now) ≡ None)
+        × Keeps (W.written output.old) (W.written output.new) }
+    ensures refused { command_asked (map S.text words.now) ≡ None → (result ≡ 1) ⊎ (result ≡ 4) }
+{
     perform(rt, words, input, output, errors)
 }
 

@@ -4,8 +4,7 @@ ghost use Rattle.std.specs.Io.KnownBytes.{Appends};
 ghost use Rattle.dq_core.specs.Histories.{is_well_formed_history};
 ghost use Rattle.dq_core.specs.Shared.{replies, world_after};
 ghost use Rattle.dq_captures.specs.ReplyLines.{reply_lines};
-ghost use Rattle.dq_app.specs.Program.{AreGiven, CutsGiven, Cuts, EndsTask};
-ghost use Rattle.dq_console.specs.ServiceProgress.{AreHonest};
+ghost use Rattle.dq_app.specs.Program.{AreGiven, CutsGiven, Cuts, EndsTask, AsFarAsHonest};
 
 use crate::replay_input::History;
 use crate::stop::Stop;
@@ -22,11 +21,14 @@ pub fn outcome_of<T: Tables + Drop>(
 ) -> Result<Outcome<T>, Fault>
     requires formed { IsTrue (is_well_formed_history history.events.items) }
     requires unfailed { (T.state tables).failed ≡ false }
-    ensures given { AreHonest T.state → IfOk result (λ outcome. AreGiven history.config
-        (T.state tables).rows history.events.items outcome.replies outcome.fault) }
-    ensures kept { AreHonest T.state → IfOk result (λ outcome. outcome.fault ≡ None →
-        (T.state outcome.tables).rows
+    ensures given { IfOk result (λ outcome. (T.state outcome.tables).honest →
+        AreGiven history.config (T.state tables).rows history.events.items outcome.replies
+        outcome.fault) }
+    ensures kept { IfOk result (λ outcome. (T.state outcome.tables).honest →
+        outcome.fault ≡ None → (T.state outcome.tables).rows
         ≡ (world_after history.config (T.state tables).rows history.events.items).rows) }
+    ensures was_honest { IfOk result (λ outcome.
+        (T.state outcome.tables).honest → (T.state tables).honest) }
     ensures fault { IfOk result (λ outcome. outcome.fault ≢ Some Fault.Stopped) }
     ensures outcome { IsOk result }
 {
@@ -69,15 +71,17 @@ pub fn answer<T: Tables + Drop, W: Sink>(
 ) -> Result<T, Stop>
     requires formed { IsTrue (is_well_formed_history history.events.items) }
     requires unfailed { (T.state tables).failed ≡ false }
-    ensures kept { AreHonest T.state → IfOk result (λ kept. (T.state kept).rows
+    ensures kept { IfOk result (λ kept. (T.state kept).honest → (T.state kept).rows
         ≡ (world_after history.config (T.state tables).rows history.events.items).rows) }
-    ensures done { AreHonest T.state → OnOk result
-        (Appends (W.written output.old) (W.written output.new)
+    ensures done { IfOk result (λ kept. (T.state kept).honest →
+        Appends (W.written output.old) (W.written output.new)
         (reply_lines (replies history.config (T.state tables).rows history.events.items))) }
+    ensures was_honest { IfOk result (λ kept. (T.state kept).honest → (T.state tables).honest) }
     ensures flushed { OnOk result (W.is_flushed output.new) }
     ensures ends { IfErr result (EndsTask (W.may_fail output.old)) }
-    ensures cut { AreHonest T.state → IfErr result (Cuts (W.written output.old)
-        (W.written output.new) history.config (T.state tables).rows history.events.items) }
+    ensures cut { IfErr result (λ stop. AsFarAsHonest T.state ((T.state tables).honest
+        × Cuts (W.written output.old) (W.written output.new) history.config
+        (T.state tables).rows history.events.items stop)) }
 {
     let outcome = outcome_of(alloc, history, tables)?;
     let Outcome {

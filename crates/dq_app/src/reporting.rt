@@ -5,8 +5,7 @@ ghost use Rattle.dq_core.specs.declared.fault.Fault.{Fault};
 ghost use Rattle.dq_core.specs.Histories.{is_well_formed_history};
 ghost use Rattle.dq_core.specs.Shared.{world_after};
 ghost use Rattle.dq_cli.specs.declared.parsed_command.Task.TheVariants.{Report};
-ghost use Rattle.dq_app.specs.Program.{text_of, Breaks, EndsTask};
-ghost use Rattle.dq_console.specs.ServiceProgress.{AreHonest};
+ghost use Rattle.dq_app.specs.Program.{text_of, Breaks, EndsTask, AsFarAsHonest, AreOnlyRead};
 ghost use Rattle.dq_captures.specs.Reports.{names_of, report_text};
 
 use crate::replay_input::History;
@@ -31,10 +30,9 @@ impl<T: Tables> Counting for Kept<T> {
 
     ghost rows = { λ kept. (T.state kept.tables).rows };
 
-    ghost is_honest = { λ _. AreHonest T.state };
+    ghost is_honest = { λ kept. (T.state kept.tables).honest };
 
-    ghost leads = { λ old new.
-        AreHonest T.state → (T.state new.tables).rows ≡ (T.state old.tables).rows };
+    ghost leads = { λ old new. AreOnlyRead (T.state old.tables) (T.state new.tables) };
 
     ghost fails = { λ _ _ fault. fault ≢ Fault.Stopped };
 
@@ -42,15 +40,16 @@ impl<T: Tables> Counting for Kept<T> {
         Ok(self.tables.count(kind, name)?)
     }
 
-    ghost leads_nowhere = { λ it honest. refl };
+    ghost leads_nowhere = { λ it honest. (honest, refl) };
 
-    ghost leads_on = { λ old mid new one next honest. next honest ∙ one honest };
+    ghost leads_on = { λ old mid new one next honest.
+        ((one (next honest).0).0, (next honest).1 ∙ (one (next honest).0).1) };
 
     ghost fails_later = { λ old mid new fault one fails. fails };
 
     ghost wants_memory = { λ old new one is. Prim.cc };
 
-    ghost keeps_rows = { λ old new one honest. (honest, one honest) };
+    ghost keeps_rows = { λ old new one honest. one honest };
 }
 
 /// The names of institutions, in their order.
@@ -68,8 +67,9 @@ pub fn names_of(alloc: Global, institutions: &[Institution]) -> Result<Vec<Liste
 fn kept_after<T: Tables + Drop>(alloc: Global, history: History, tables: T) -> Result<T, Fault>
     requires formed { IsTrue (is_well_formed_history history.events.items) }
     requires unfailed { (T.state tables).failed ≡ false }
-    ensures kept { AreHonest T.state → IfOk result (λ kept. (T.state kept).rows
+    ensures kept { IfOk result (λ kept. (T.state kept).honest → (T.state kept).rows
         ≡ (world_after history.config (T.state tables).rows history.events.items).rows) }
+    ensures was_honest { IfOk result (λ kept. (T.state kept).honest → (T.state tables).honest) }
     ensures fault { IfErr result (λ fault. fault ≢ Fault.Stopped) }
 {
     let Outcome {
@@ -107,10 +107,11 @@ fn report_of<T: Tables + Drop>(
 ) -> Result<(Vec<u8>, T), Fault>
     requires formed { IsTrue (is_well_formed_history history.events.items) }
     requires unfailed { (T.state tables).failed ≡ false }
-    ensures text { AreHonest T.state → IfOk result (λ it. it.0.items
+    ensures text { IfOk result (λ it. (T.state it.1).honest → it.0.items
         ≡ text_of Report history.config (T.state tables).rows history.events.items) }
-    ensures kept { AreHonest T.state → IfOk result (λ it. (T.state it.1).rows
+    ensures kept { IfOk result (λ it. (T.state it.1).honest → (T.state it.1).rows
         ≡ (world_after history.config (T.state tables).rows history.events.items).rows) }
+    ensures was_honest { IfOk result (λ it. (T.state it.1).honest → (T.state tables).honest) }
     ensures fault { IfErr result (λ fault. fault ≢ Fault.Stopped) }
 {
     let names = names_of(alloc, history.config.institutions())?;
@@ -149,14 +150,16 @@ pub fn report<T: Tables + Drop, W: Sink>(
 ) -> Result<T, Stop>
     requires formed { IsTrue (is_well_formed_history history.events.items) }
     requires unfailed { (T.state tables).failed ≡ false }
-    ensures kept { AreHonest T.state → IfOk result (λ kept. (T.state kept).rows
+    ensures kept { IfOk result (λ kept. (T.state kept).honest → (T.state kept).rows
         ≡ (world_after history.config (T.state tables).rows history.events.items).rows) }
-    ensures done { AreHonest T.state → OnOk result (Appends (W.written output.old)
+    ensures done { IfOk result (λ kept. (T.state kept).honest → Appends (W.written output.old)
         (W.written output.new) (text_of Report history.config (T.state tables).rows history.events.items)) }
+    ensures was_honest { IfOk result (λ kept. (T.state kept).honest → (T.state tables).honest) }
     ensures flushed { OnOk result (W.is_flushed output.new) }
     ensures ends { IfErr result (EndsTask (W.may_fail output.old)) }
-    ensures cut { AreHonest T.state → IfErr result (Breaks (W.written output.old)
-        (W.written output.new) (text_of Report history.config (T.state tables).rows history.events.items)) }
+    ensures cut { IfErr result (λ stop. AsFarAsHonest T.state ((T.state tables).honest
+        × Breaks (W.written output.old) (W.written output.new)
+        (text_of Report history.config (T.state tables).rows history.events.items) stop)) }
 {
     let (text, kept) = report_of(alloc, history, tables)?;
     put_whole(text.as_slice(), output)?;

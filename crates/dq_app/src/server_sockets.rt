@@ -2,16 +2,18 @@
 ghost use Rattle.std.specs.Prelude.{◌≡◌, ◌≤◌, length, option_copied, IfOk};
 ghost use Rattle.dq_wires.specs.Logs.{IfGot, failures_after_accept};
 
-use dq_assoc::Service;
+use crate::key_files::reread_keys;
+use dq_assoc::{AssociationEnd, Service};
 use dq_captures::Host;
-use dq_console::Asks;
+use dq_console::{Asks, KeysError};
 use dq_core::{LogEvent, Note, Notes};
 use dq_http::HttpServer;
 use dq_request::{Request, Response};
 use dq_tables::Tables;
 use dq_web::{Counters, Service as CountedService};
 use dq_wires::{
-    Called, LogEnd, LoggedWires, ReadTurn, SocketClient, SocketWires, Turner, WireFault, Wires,
+    Called, GivesUp, LogEnd, LoggedWires, Progress, ReadTurn, SocketClient, SocketWires, Turner,
+    WireFault, Wires,
 };
 use std::alloc::Global;
 use std::time::{Duration, Instant};
@@ -20,32 +22,37 @@ use std::{fs, io};
 /// The octets of a page of memory.
 const PAGE_OCTETS: u64 = 4096;
 
-/// Sockets whose connections are told of in a log, if there is one, and counted, if that is asked.
+/// Wires whose connections are told of in a log, if there is one, and counted, if that is asked. The
+/// program's are sockets.
 #[derive(Drop)]
-pub struct AssociationSockets {
-    pub logged: LoggedWires<SocketWires, LogEnd>,
+pub struct AssociationSockets<W> {
+    pub logged: LoggedWires<W, LogEnd>,
     pub counted: Option<Counted>,
 }
 
-/// The sockets of the console, if there is one.
+/// The wires of the console, if there is one. The program's are sockets.
 #[derive(Drop)]
-pub struct ConsoleSockets {
-    pub wires: Option<SocketWires>,
+pub struct ConsoleSockets<W> {
+    pub wires: Option<W>,
 }
 
-/// The web front, if there is one.
+/// The web front, if there is one, with the path of the file of its keys.
 #[derive(Drop)]
 pub struct HttpSockets {
+    alloc: Global,
+    folder: HostRuntime,
+    keys: String,
     pub front: Option<HttpServer<SocketWires>>,
 }
 
-/// Counts of what was served, the numbers of the connections with an association, and when the turn
-/// began.
+/// Counts of what was served, the numbers of the connections with an association, when the turn
+/// began, and whether something was served in it.
 #[derive(Drop)]
 pub struct Counted {
     pub counters: Counters,
     open: Vec<u64>,
     begun: Option<Instant>,
+    is_served: bool,
 }
 
 /// The octets of memory that the program has, as the system tells; 0 where it does not.
@@ -78,6 +85,7 @@ impl Counted {
             counters: Counters::default(),
             open: Vec::new(alloc),
             begun: None,
+            is_served: false,
         }
     }
 
@@ -92,6 +100,16 @@ impl Counted {
         }
     }
 
+    // Counts an association that was rejected, or that ended on the connection of a number.
+    fn count_end(&mut self, end: AssociationEnd, number: u64) {
+        match end {
+            AssociationEnd::Rejected(_) => self.counters.reject(),
+            AssociationEnd::Aborted(..) if self.close(number) => self.counters.abort(),
+            AssociationEnd::Released if self.close(number) => self.counters.release(),
+            AssociationEnd::Aborted(..) | AssociationEnd::Released => {}
+        }
+    }
+
     fn count(&mut self, note: &Note) {
         match &note.noted {
             LogEvent::Accepted { .. } => {
@@ -99,11 +117,9 @@ impl Counted {
                     self.counters.accept();
                 }
             }
-            LogEvent::Rejected { .. } => self.counters.reject(),
-            LogEvent::Aborted { .. } if self.close(note.number) => self.counters.abort(),
-            LogEvent::Released if self.close(note.number) => self.counters.release(),
+            LogEvent::Closed { end, .. } => self.count_end(*end, note.number),
             LogEvent::Ended if self.close(note.number) => self.counters.lose(),
-            LogEvent::Aborted { .. } | LogEvent::Released | LogEvent::Ended => {}
+            LogEvent::Ended => {}
             LogEvent::Served {
                 service,
                 status,
@@ -112,25 +128,37 @@ impl Counted {
         }
     }
 
-    // Counts what a turn served, and how long it took where it served something.
-    fn count_turn(&mut self, notes: &Notes, clock: &HostRuntime) {
+    // Counts what associations were served. The first turn begins with this.
+    fn count_all(&mut self, notes: &Notes, clock: &HostRuntime) {
+        if self.begun.is_none() {
+            self.begin_turn(clock);
+        }
         for note in notes.list.as_slice() {
             self.count(note);
+            self.is_served = true;
         }
-        let now = Instant::now(clock).ok();
-        match (self.begun.take(), now) {
-            (Some(begun), Some(now)) if !notes.list.is_empty() => {
-                let passed = now.duration_since(begun).as_micros();
-                self.counters
-                    .turn(u64::try_from(passed).unwrap_or(u64::MAX));
-            }
-            (Some(_), _) => {}
-            (None, now) => self.begun = now,
+    }
+
+    // A turn begins.
+    fn begin_turn(&mut self, clock: &HostRuntime) {
+        self.begun = Instant::now(clock).ok();
+        self.is_served = false;
+    }
+
+    // A turn ends. How long it took is counted where something was served in it.
+    fn end_turn(&mut self, clock: &HostRuntime) {
+        if !self.is_served {
+            return;
+        }
+        if let (Some(begun), Ok(now)) = (self.begun, Instant::now(clock)) {
+            let passed = now.duration_since(begun).as_micros();
+            self.counters
+                .turn(u64::try_from(passed).unwrap_or(u64::MAX));
         }
     }
 }
 
-impl AssociationSockets {
+impl<W> AssociationSockets<W> {
     /// Tells the log what was served since this was last asked, and counts it.
     pub fn tell<T: Tables>(&mut self, turner: &mut Turner<T>, clock: &HostRuntime)
         ensures { turner.new ≡ turner.old }
@@ -140,20 +168,39 @@ impl AssociationSockets {
         }
         let notes = turner.take_notes();
         if let Some(counted) = &mut self.counted {
-            counted.count_turn(&notes, clock);
+            counted.count_all(&notes, clock);
         }
         if let Some(log) = &mut self.logged.log {
             log.tell(&notes, clock);
         }
     }
+
+    /// Has this turn counted, if the console or the web front served something in it.
+    pub fn mark_served(&mut self, is_served: bool) {
+        if let Some(counted) = &mut self.counted {
+            counted.is_served = counted.is_served || is_served;
+        }
+    }
+
+    /// Begins a turn, after a rest.
+    pub fn begin_turn(&mut self, clock: &HostRuntime) {
+        if let Some(counted) = &mut self.counted {
+            counted.begin_turn(clock);
+        }
+    }
+
+    /// Ends a turn, before a rest.
+    pub fn end_turn(&mut self, clock: &HostRuntime) {
+        if let Some(counted) = &mut self.counted {
+            counted.end_turn(clock);
+        }
+    }
 }
 
-impl Wires for AssociationSockets {
-    ghost use Rattle.std.specs.Prelude.{None};
+impl<W: Wires + GivesUp> Wires for AssociationSockets<W> {
+    ghost log = { λ sockets. W.log sockets.logged.wires };
 
-    ghost log = { λ _. None };
-
-    ghost failed_accepts = { λ sockets. ⟦<SocketWires as Wires>⟧.failed_accepts sockets.logged.wires };
+    ghost failed_accepts = { λ sockets. W.failed_accepts sockets.logged.wires };
 
     fn accept(&mut self) -> Result<Option<usize>, WireFault> {
         self.logged.accept()
@@ -167,12 +214,16 @@ impl Wires for AssociationSockets {
         self.logged.write(place, octets)
     }
 
+    fn learn(&mut self, place: usize, progress: Progress) {
+        self.logged.learn(place, progress);
+    }
+
     fn shut(&mut self, place: usize) -> Result<(), WireFault> {
         self.logged.shut(place)
     }
 }
 
-impl<H: Host> Called<H> for AssociationSockets {
+impl<H: Host> Called<H> for AssociationSockets<SocketWires> {
     fn connect(&self, machine: &H) -> Result<SocketClient, WireFault> {
         match self.logged.wires.address() {
             Ok(address) => SocketClient::connect(machine.runtime(), address).or(Err(WireFault)),
@@ -186,7 +237,7 @@ impl<H: Host> Called<H> for AssociationSockets {
     }
 }
 
-impl ConsoleSockets {
+impl ConsoleSockets<SocketWires> {
     /// Whether calls did something in this turn.
     pub fn is_busy(&self) -> bool {
         match &self.wires {
@@ -211,13 +262,13 @@ impl ConsoleSockets {
     }
 }
 
-impl Wires for ConsoleSockets {
-    ghost use Rattle.std.specs.Prelude.{None, option_map, unwrap_or};
+impl<W: Wires> Wires for ConsoleSockets<W> {
+    ghost use Rattle.std.specs.Prelude.{option_map, unwrap_or};
+    ghost use Rattle.std.specs.Option.{option_and_then};
 
-    ghost log = { λ _. None };
+    ghost log = { λ sockets. option_and_then W.log sockets.wires };
 
-    ghost failed_accepts = { λ sockets.
-        unwrap_or (option_map (⟦<SocketWires as Wires>⟧.failed_accepts) sockets.wires) 0 };
+    ghost failed_accepts = { λ sockets. unwrap_or (option_map W.failed_accepts sockets.wires) 0 };
 
     fn accept(&mut self) -> Result<Option<usize>, WireFault> {
         match &mut self.wires {
@@ -249,9 +300,26 @@ impl Wires for ConsoleSockets {
 }
 
 impl HttpSockets {
+    /// Those of a web front, if there is one, whose keys are in the file at a path.
+    pub fn new(
+        alloc: Global,
+        folder: &HostRuntime,
+        front: Option<HttpServer<SocketWires>>,
+        keys: String,
+    ) -> Self
+        ensures { result.front ≡ front }
+    {
+        HttpSockets {
+            alloc,
+            folder: *folder,
+            keys,
+            front,
+        }
+    }
+
     /// The turn of the web front. A request for metrics is answered by the counts of what was served.
     /// The notes go to the log.
-    pub fn attend(&mut self, beside: &mut AssociationSockets, rt: &HostRuntime) {
+    pub fn attend(&mut self, beside: &mut AssociationSockets<SocketWires>, rt: &HostRuntime) {
         let Some(front) = &mut self.front else {
             return;
         };
@@ -264,6 +332,7 @@ impl HttpSockets {
             }
         }
         let notes = front.take_notes();
+        beside.mark_served(!notes.is_empty());
         if let Some(log) = &mut beside.logged.log {
             log.note_web(notes.as_str());
         }
@@ -296,11 +365,13 @@ impl HttpSockets {
 impl Asks for HttpSockets {
     ghost use Rattle.std.specs.Option.{option_and_then};
     ghost use Rattle.dq_http.specs.RequestQueue.{next_of};
-    ghost use Rattle.dq_app.specs.HttpAnswers.{IsAnswered};
+    ghost use Rattle.dq_app.specs.HttpAnswers.{IsAnswered, AreReread};
 
     ghost waiting = { λ sockets. option_and_then next_of sockets.front };
 
     ghost answers = { λ old new response. IsAnswered old.front new.front response };
+
+    ghost rereads = { λ old new outcome. AreReread old.front new.front outcome };
 
     fn next(&self) -> Option<&Request> {
         match &self.front {
@@ -312,6 +383,13 @@ impl Asks for HttpSockets {
     fn answer(&mut self, response: &Response) {
         if let Some(front) = &mut self.front {
             front.answer(response);
+        }
+    }
+
+    fn read_keys(&mut self) -> Result<(), KeysError> {
+        match &mut self.front {
+            Some(front) => reread_keys(self.alloc, &self.folder, self.keys.as_str(), front),
+            None => Err(KeysError::NoFront),
         }
     }
 }

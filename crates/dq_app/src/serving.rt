@@ -1,20 +1,18 @@
 //! Connections that come in, served.
-ghost use Rattle.std.specs.Prelude.{◌≡◌, List, [], None, option_map, IfErr, IfSome, OnOk, IfOk};
+ghost use Rattle.std.specs.Prelude.{◌≡◌, [], None, option_map, IfErr, OnOk, OnErr, IfOk};
 ghost use Rattle.std.specs.Duration.{as_nanos};
 ghost use Rattle.std.specs.Option.{option_copied};
 ghost use Rattle.std.specs.Io.KnownBytes.{Appends};
-ghost use Rattle.dq_config.specs.declared.config.Institution.{Institution};
 ghost use Rattle.dq_core.specs.ServerView.{Refines};
 ghost use Rattle.dq_wires.specs.ServerSteps.{Moves, Fails};
 ghost use Rattle.dq_wires.specs.Turns.{TurnsWent, TurnsCut};
-ghost use Rattle.dq_cli.specs.CommandLine.{place_asked, clients_of, serving_in, web_front_in};
+ghost use Rattle.dq_cli.specs.CommandLine.{clients_of, serving_in, web_front_in};
 ghost use Rattle.dq_captures.specs.Reports.{names_of};
 ghost use Rattle.dq_captures.specs.Surroundings.{BreaksOff};
-ghost use Rattle.dq_tables.specs.declared.row.Row.{Row};
-ghost use Rattle.dq_app.specs.Program.{IsConfigured, IsInStore, rows_at, ClosesAt};
+ghost use Rattle.dq_app.specs.Program.{AsFarAsHonest};
 ghost use Rattle.dq_console.specs.ServiceProgress.{AreHonest};
-ghost use Rattle.dq_app.specs.Rounds.{RoundsWent, RoundsCut, Beside, BesideCut};
-ghost use Rattle.dq_app.specs.Serving.{ready_text, turn_count, limit_of, nanoseconds, AreLimits, ListensAs, IsUncalled, ArePlain, ArePlainTo, IsListenError, Served, ServedUpTo, EndsService, StopsService};
+ghost use Rattle.dq_app.specs.Rounds.{RoundsWent, RoundsCut, AreBeside, AreBesideTo, IsAttended, IsInterrupted, Begins, view_of};
+ghost use Rattle.dq_app.specs.Serving.{ready_text, turn_count, limit_of, nanoseconds, AreLimits, ListensAs, IsUncalled, IsListenError, Served, ServedUpTo, EndsService, IsServed, StopsService};
 
 use crate::backup::OfFiles;
 use crate::network::{Entrance, Listening, Logging, Network, connections_of, limit_of};
@@ -26,18 +24,20 @@ use dq_captures::{Folder, Sink, put_numbered};
 use dq_cli::{Keeper, Service};
 use dq_config::Institution;
 use dq_console::{Backups, Console, OfMemory};
-use dq_core::Server;
+use dq_core::{Fault, Server};
 use dq_tables::Tables;
-use dq_wires::laws::{calls_are_a_serving, servings_are_answered};
+use dq_wires::laws::{calls_are_a_serving, servings_are_answered, steps_are_a_history};
 use dq_wires::{Limits, TurnFault, Turner, Wires, turn_all};
 use std::alloc::Global;
+use std::io;
 use std::time::Duration;
 
-/// Where connections come in: the wires of associations, and the console with its web front.
+/// Where connections come in: the wires of associations, and the console with its web front, if there
+/// is one.
 #[derive(Drop)]
 struct Listeners<N: Network> {
     wires: N::Wired,
-    console: Console<N::Console, N::Http>,
+    console: Option<Console<N::Console, N::Http>>,
 }
 
 /// The file by which clients come in that are no associations, if they do.
@@ -75,6 +75,28 @@ fn console_beside<N: Network>(
     let (console, front) = beside;
     let names = names_of(alloc, institutions)?;
     Ok(Console::new(alloc, console, front, names)?)
+}
+
+/// The console of the clients of a service, if any can come in.
+fn console_of<N: Network>(
+    alloc: Global,
+    network: &N,
+    service: Service<'_>,
+    institutions: &[Institution],
+    wires: &mut N::Wired,
+) -> Result<Option<Console<N::Console, N::Http>>, Stop>
+    ensures same { N.Wired.log wires.new ≡ N.Wired.log wires.old }
+    ensures begins { IfOk result (Begins N.Console.log institutions.now
+        (clients_of (serving_in service.entry))) }
+    ensures stops { IfErr result (IsListenError (N.may_break network.now)) }
+{
+    match clients_at(service) {
+        None => Ok(None),
+        Some(_) => {
+            let console = console_beside(alloc, network, service, institutions, wires)?;
+            Ok(Some(console))
+        }
+    }
 }
 
 /// A number of seconds, if there is one.
@@ -162,122 +184,76 @@ fn turn_told<N: Network, T: Tables>(
     turned
 }
 
-/// One turn of all connections, and a rest.
-fn turn_once<N: Network, T: Tables>(
-    network: &N,
-    turner: &mut Turner<T>,
-    wires: &mut N::Wired,
-    rest: Duration,
-) -> Result<(), Stop>
-    requires working { turner.old.fault ≡ None }
-    ensures went { OnOk result (RoundsWent T.state (N.Wired.log wires.old)
-        (N.Wired.log wires.new) turner.old turner.new 1 ArePlain) }
-    ensures cut { IfErr result (RoundsCut T.state (N.may_break network.now)
-        (N.Wired.log wires.old) (N.Wired.log wires.new) turner.old turner.new.server 1
-        ArePlainTo) }
-{
-    calls_are_a_serving::<T>();
-    turn_told(network, turner, wires)?;
-    let rest = rest_of(turner, rest);
-    if network.rest(wires, rest).is_err() {
-        return Err(Stop::Network);
-    }
-    Ok(())
-}
-
-/// One turn of all connections, then one of the console, and a rest.
-fn turn_beside<N: Network, T: Tables, B: Backups<T>>(
+/// Attends to the clients of the console and to the web front, if there are any. The log is told of it.
+fn attend<N: Network, T: Tables, B: Backups<T>>(
     network: &N,
     backups: &B,
     turner: &mut Turner<T>,
     listeners: &mut Listeners<N>,
-    rest: Duration,
+) -> Result<(), Fault>
+    ensures same { N.Wired.log listeners.new.wires ≡ N.Wired.log listeners.old.wires }
+    ensures went { OnOk result (IsAttended T.state turner.old turner.new
+        (view_of N.Console.log listeners.old.console)
+        (view_of N.Console.log listeners.new.console)) }
+    ensures cut { OnErr result (IsInterrupted T.state turner.old turner.new
+        (view_of N.Console.log listeners.old.console)
+        (view_of N.Console.log listeners.new.console)) }
+{
+    let Some(console) = &mut listeners.console else {
+        return Ok(());
+    };
+    console.turn(turner, backups)?;
+    let notes = console.take_notes();
+    network.note(&mut listeners.wires, notes.as_str());
+    Ok(())
+}
+
+/// Waits until something may be done by any of these, so long at most.
+fn rest<N: Network>(network: &N, listeners: &mut Listeners<N>, most: Duration) -> io::Result<()>
+    ensures same { N.Wired.log listeners.new.wires ≡ N.Wired.log listeners.old.wires }
+    ensures console { view_of N.Console.log listeners.new.console
+        ≡ view_of N.Console.log listeners.old.console }
+    ensures failed { OnErr result (N.may_break network.now) }
+{
+    match &mut listeners.console {
+        None => network.rest(&mut listeners.wires, most),
+        Some(console) => network.rest_with(
+            &mut listeners.wires,
+            &mut console.handler.wires,
+            &mut console.front,
+            most,
+        ),
+    }
+}
+
+/// One round: a turn of all connections, one of the console if there is one, and a rest.
+fn turn_once<N: Network, T: Tables, B: Backups<T>>(
+    network: &N,
+    backups: &B,
+    turner: &mut Turner<T>,
+    listeners: &mut Listeners<N>,
+    most: Duration,
 ) -> Result<(), Stop>
     requires working { turner.old.fault ≡ None }
     ensures went { OnOk result (RoundsWent T.state (N.Wired.log listeners.old.wires)
         (N.Wired.log listeners.new.wires) turner.old turner.new 1
-        (Beside T.state listeners.old.console.handler.names.items (N.Wired.log listeners.old.wires)
-        turner.old (N.Console.log listeners.old.console.handler.wires)
-        (N.Console.log listeners.new.console.handler.wires)
-        listeners.old.console.clients.items listeners.new.console.clients.items)) }
-    ensures names { OnOk result
-        (listeners.new.console.handler.names.items ≡ listeners.old.console.handler.names.items) }
+        (AreBeside T.state (N.Wired.log listeners.old.wires) turner.old
+        (view_of N.Console.log listeners.old.console)
+        (view_of N.Console.log listeners.new.console))) }
     ensures cut { IfErr result (RoundsCut T.state (N.may_break network.now)
         (N.Wired.log listeners.old.wires) (N.Wired.log listeners.new.wires) turner.old
-        turner.new.server 1 (BesideCut T.state
-        listeners.old.console.handler.names.items (N.Wired.log listeners.old.wires) turner.old
-        (N.Console.log listeners.old.console.handler.wires)
-        (N.Console.log listeners.new.console.handler.wires) listeners.old.console.clients.items)) }
+        turner.new.server 1 (AreBesideTo T.state (N.Wired.log listeners.old.wires) turner.old
+        (view_of N.Console.log listeners.old.console)
+        (view_of N.Console.log listeners.new.console))) }
 {
     calls_are_a_serving::<T>();
     turn_told(network, turner, &mut listeners.wires)?;
-    let rest = rest_of(turner, rest);
-    listeners.console.turn(turner, backups)?;
-    let notes = listeners.console.take_notes();
-    network.note(&mut listeners.wires, notes.as_str());
-    let console = &mut listeners.console;
-    let rested = network.rest_with(
-        &mut listeners.wires,
-        &mut console.handler.wires,
-        &mut console.front,
-        rest,
-    );
-    if rested.is_err() {
+    let most = rest_of(turner, most);
+    attend(network, backups, turner, listeners)?;
+    if rest(network, listeners, most).is_err() {
         return Err(Stop::Network);
     }
     Ok(())
-}
-
-/// One turn without a console. The log is told where the server stops.
-fn turn_noted<N: Network, T: Tables>(
-    network: &N,
-    turner: &mut Turner<T>,
-    wires: &mut N::Wired,
-    rest: Duration,
-) -> Result<(), Stop>
-    requires working { turner.old.fault ≡ None }
-    ensures went { OnOk result (RoundsWent T.state (N.Wired.log wires.old)
-        (N.Wired.log wires.new) turner.old turner.new 1 ArePlain) }
-    ensures cut { IfErr result (RoundsCut T.state (N.may_break network.now)
-        (N.Wired.log wires.old) (N.Wired.log wires.new) turner.old turner.new.server 1
-        ArePlainTo) }
-{
-    let turned = turn_once(network, turner, wires, rest);
-    if let Err(stop) = turned {
-        note_stop(network, wires, stop);
-    }
-    turned
-}
-
-/// The same with one.
-fn turn_noted_beside<N: Network, T: Tables, B: Backups<T>>(
-    network: &N,
-    backups: &B,
-    turner: &mut Turner<T>,
-    listeners: &mut Listeners<N>,
-    rest: Duration,
-) -> Result<(), Stop>
-    requires working { turner.old.fault ≡ None }
-    ensures went { OnOk result (RoundsWent T.state (N.Wired.log listeners.old.wires)
-        (N.Wired.log listeners.new.wires) turner.old turner.new 1
-        (Beside T.state listeners.old.console.handler.names.items (N.Wired.log listeners.old.wires)
-        turner.old (N.Console.log listeners.old.console.handler.wires)
-        (N.Console.log listeners.new.console.handler.wires)
-        listeners.old.console.clients.items listeners.new.console.clients.items)) }
-    ensures names { OnOk result
-        (listeners.new.console.handler.names.items ≡ listeners.old.console.handler.names.items) }
-    ensures cut { IfErr result (RoundsCut T.state (N.may_break network.now)
-        (N.Wired.log listeners.old.wires) (N.Wired.log listeners.new.wires) turner.old
-        turner.new.server 1 (BesideCut T.state
-        listeners.old.console.handler.names.items (N.Wired.log listeners.old.wires) turner.old
-        (N.Console.log listeners.old.console.handler.wires)
-        (N.Console.log listeners.new.console.handler.wires) listeners.old.console.clients.items)) }
-{
-    let turned = turn_beside(network, backups, turner, listeners, rest);
-    if let Err(stop) = turned {
-        note_stop(network, &mut listeners.wires, stop);
-    }
-    turned
 }
 
 /// How many turns, and how long is rested after each at most.
@@ -305,28 +281,8 @@ impl Pace {
     }
 }
 
-/// So many turns without a console.
-fn serve_alone<N: Network, T: Tables>(
-    network: &N,
-    turner: &mut Turner<T>,
-    wires: &mut N::Wired,
-    pace: Pace,
-) -> Result<(), Stop>
-    requires working { turner.old.fault ≡ None }
-    ensures went { OnOk result (RoundsWent T.state (N.Wired.log wires.old)
-        (N.Wired.log wires.new) turner.old turner.new pace.turns ArePlain) }
-    ensures cut { IfErr result (RoundsCut T.state (N.may_break network.now)
-        (N.Wired.log wires.old) (N.Wired.log wires.new) turner.old turner.new.server pace.turns
-        ArePlainTo) }
-{
-    for _turn in 0..pace.turns {
-        turn_noted(network, turner, wires, pace.rest)?;
-    }
-    Ok(())
-}
-
-/// The same with one.
-fn serve_beside<N: Network, T: Tables, B: Backups<T>>(
+/// So many rounds.
+fn serve_rounds<N: Network, T: Tables, B: Backups<T>>(
     network: &N,
     backups: &B,
     turner: &mut Turner<T>,
@@ -336,21 +292,17 @@ fn serve_beside<N: Network, T: Tables, B: Backups<T>>(
     requires working { turner.old.fault ≡ None }
     ensures went { OnOk result (RoundsWent T.state (N.Wired.log listeners.old.wires)
         (N.Wired.log listeners.new.wires) turner.old turner.new pace.turns
-        (Beside T.state listeners.old.console.handler.names.items (N.Wired.log listeners.old.wires)
-        turner.old (N.Console.log listeners.old.console.handler.wires)
-        (N.Console.log listeners.new.console.handler.wires)
-        listeners.old.console.clients.items listeners.new.console.clients.items)) }
-    ensures names { OnOk result
-        (listeners.new.console.handler.names.items ≡ listeners.old.console.handler.names.items) }
+        (AreBeside T.state (N.Wired.log listeners.old.wires) turner.old
+        (view_of N.Console.log listeners.old.console)
+        (view_of N.Console.log listeners.new.console))) }
     ensures cut { IfErr result (RoundsCut T.state (N.may_break network.now)
         (N.Wired.log listeners.old.wires) (N.Wired.log listeners.new.wires) turner.old
-        turner.new.server pace.turns (BesideCut T.state
-        listeners.old.console.handler.names.items (N.Wired.log listeners.old.wires) turner.old
-        (N.Console.log listeners.old.console.handler.wires)
-        (N.Console.log listeners.new.console.handler.wires) listeners.old.console.clients.items)) }
+        turner.new.server pace.turns (AreBesideTo T.state (N.Wired.log listeners.old.wires)
+        turner.old (view_of N.Console.log listeners.old.console)
+        (view_of N.Console.log listeners.new.console))) }
 {
     for _turn in 0..pace.turns {
-        turn_noted_beside(network, backups, turner, listeners, pace.rest)?;
+        turn_once(network, backups, turner, listeners, pace.rest)?;
     }
     Ok(())
 }
@@ -385,40 +337,32 @@ pub fn serve_by<N: AllocGlobal + Network, T: Tables + Drop, B: Backups<T>, W: Si
     ensures ready { OnOk result (Appends (W.written output.old) (W.written output.new)
         (ready_text service.entry.port)) }
     ensures flushed { OnOk result (W.is_flushed output.new) }
-    ensures served { AreHonest T.state → IfOk result (λ tables. Served N.Wired.log N.Console.log
+    ensures served { IfOk result (λ tables. (T.state tables).honest →
+        (T.state server.tables).honest × Served N.Wired.log N.Console.log (AreHonest T.state)
         server.institutions (T.state server.tables).rows (turn_count service.entry.turns)
         (clients_of (serving_in service.entry)) (T.state tables).rows) }
     ensures ends { IfErr result (EndsService (N.may_break network.now) (W.may_fail output.old)
         (W.written output.old) (W.written output.new) service.entry.port (λ stop.
-        AreHonest T.state → ServedUpTo N.Wired.log N.Console.log (N.may_break network.now)
-        server.institutions (T.state server.tables).rows (turn_count service.entry.turns)
-        (clients_of (serving_in service.entry)) stop)) }
+        AsFarAsHonest T.state ((T.state server.tables).honest × ServedUpTo N.Wired.log
+        N.Console.log (AreHonest T.state) (N.may_break network.now) server.institutions
+        (T.state server.tables).rows (turn_count service.entry.turns)
+        (clients_of (serving_in service.entry)) stop))) }
 {
+    steps_are_a_history::<T>();
     calls_are_a_serving::<T>();
     servings_are_answered::<T>();
     let alloc = network.alloc();
     let pace = Pace::of(service.turns);
     let mut wires = listen(alloc, network, service)?;
-    match clients_at(service) {
-        None => {
-            put_ready(service.port, output)?;
-            let mut turner = Turner::new(alloc, server);
-            serve_alone(network, &mut turner, &mut wires, pace)?;
-            Ok(turner.into_server().into_tables())
-        }
-        Some(_) => {
-            let console = console_beside(
-                alloc,
-                network,
-                service,
-                server.institutions(),
-                &mut wires,
-            )?;
-            put_ready(service.port, output)?;
-            let mut listeners = Listeners { wires, console };
-            let mut turner = Turner::new(alloc, server);
-            serve_beside(network, backups, &mut turner, &mut listeners, pace)?;
-            Ok(turner.into_server().into_tables())
+    let console = console_of(alloc, network, service, server.institutions(), &mut wires)?;
+    put_ready(service.port, output)?;
+    let mut listeners = Listeners { wires, console };
+    let mut turner = Turner::new(alloc, server);
+    match serve_rounds(network, backups, &mut turner, &mut listeners, pace) {
+        Ok(()) => Ok(turner.into_server().into_tables()),
+        Err(stop) => {
+            note_stop(network, &mut listeners.wires, stop);
+            Err(stop)
         }
     }
 }
@@ -430,20 +374,14 @@ pub fn serve<Rt: AllocGlobal + Folder + Stores + Network, W: Sink>(
     service: Service<'_>,
     output: &mut W,
 ) -> Result<(), Stop>
-    ensures ready { OnOk result (Appends (W.written output.old) (W.written output.new)
-        (ready_text service.entry.port)) }
+    ensures done { OnOk result (IsServed Rt.Wired.log Rt.Console.log Rt.File.state (Rt.held rt.now)
+        (Rt.stored rt.now) (W.written output.old) (W.written output.new) (serving_in service.entry)
+        (Rt.closed rt.now)) }
     ensures flushed { OnOk result (W.is_flushed output.new) }
-    ensures served { OnOk result ((institutions : List Institution)
-        × IsConfigured (Rt.held rt.now) (option_copied service.entry.config) institutions
-        × IfSome (rows_at (Rt.stored rt.now) (place_asked service.entry.keeper)) (λ rows.
-        (kept : List Row) × Served Rt.Wired.log Rt.Console.log institutions rows (turn_count service.entry.turns)
-        (clients_of (serving_in service.entry)) kept
-        × (IsInStore (place_asked service.entry.keeper) → Rt.closed rt.now kept))) }
-    ensures closed { OnOk result (ClosesAt (place_asked service.entry.keeper) (Rt.closed rt.now)
-        (λ _. Unit {0})) }
-    ensures stops { IfErr result (StopsService Rt.Wired.log Rt.Console.log (Rt.held rt.now) (Rt.stored rt.now)
-        (W.written output.old) (W.written output.new) (serving_in service.entry)
-        (Rt.may_break rt.now) (Rt.may_fail rt.now) (W.may_fail output.old)) }
+    ensures stops { IfErr result (StopsService Rt.Wired.log Rt.Console.log Rt.File.state
+        (Rt.held rt.now) (Rt.stored rt.now) (W.written output.old) (W.written output.new)
+        (serving_in service.entry) (Rt.may_break rt.now) (Rt.may_fail rt.now)
+        (W.may_fail output.old)) }
 {
     let config = configured(rt, service.config)?;
     match service.keeper {

@@ -1,5 +1,5 @@
 //! Storage of rows: memory, and stores that are files.
-ghost use Rattle.std.specs.Prelude.{◌≡◌, false, ℕ, List, [], length, map, Option, Some, IfOk, IfSome, OnOk};
+ghost use Rattle.std.specs.Prelude.{◌≡◌, false, ℕ, List, [], length, map, IfOk, OnOk};
 ghost use Rattle.dq_tables.specs.declared.row.Row.{Row};
 ghost use Rattle.dq_core.specs.Looking.{LeavesAlone};
 ghost use Rattle.dq_core.specs.Soundness.{HoldSound};
@@ -31,16 +31,15 @@ pub trait Stores {
     /// Rows in a file.
     type File: Tables + Drop;
 
-    /// The rows of the store at a path, where they are known: what keeps them is then honest.
-    ghost stored: { Self → List ℕ → Option (List Row) };
+    /// The store at a path holds these rows.
+    ghost stored: { Self → List ℕ → List Row → Type 0 };
 
-    /// The rows that the store of the version before at a path has once it is migrated, where they
-    /// are known.
-    ghost migrated: { Self → List ℕ → Option (List Row) };
+    /// The rows are those of the store of the version before at a path, migrated.
+    ghost migrated: { Self → List ℕ → List Row → Type 0 };
 
-    /// The rows that a copy of the store at a path has, of the institutions of some names or of all,
-    /// where they are known.
-    ghost copied: { Self → List ℕ → List (List ℕ) → Option (List Row) };
+    /// The rows are those of a copy of the store at a path: of the institutions of some names, or of
+    /// all where there is no name.
+    ghost copied: { Self → List ℕ → List (List ℕ) → List Row → Type 0 };
 
     /// The state once a store of these rows is closed.
     ghost closed: { Self → List Row → Type 0 };
@@ -52,14 +51,14 @@ pub trait Stores {
 
     /// No rows, kept in a store that is made in a file.
     fn new_store(&self, alloc: Global, path: &str) -> Result<Self::File, OpenError>
-        ensures rows { IfOk result (λ tables. IfSome (stored self.now path.now)
-            (λ _. (Self.File.state tables).rows ≡ [])) }
+        ensures rows { IfOk result (λ tables. (Self.File.state tables).rows ≡ []) }
         ensures failed { IfOk result (λ tables. (Self.File.state tables).failed ≡ false) };
 
     /// The rows of the store that a file holds. They are sound, and each holds a data set.
     fn store(&self, alloc: Global, path: &str) -> Result<Self::File, OpenError>
-        ensures rows { IfOk result (λ tables. IfSome (stored self.now path.now)
-            (λ rows. (Self.File.state tables).rows ≡ rows)) }
+        ensures rows { IfOk result (λ tables. (Self.File.state tables).honest →
+            (held : List Row) → stored self.now path.now held →
+            (Self.File.state tables).rows ≡ held) }
         ensures sound { IfOk result (λ tables.
             (Self.File.state tables).honest → HoldSound (Self.File.state tables).rows) }
         ensures failed { IfOk result (λ tables. (Self.File.state tables).failed ≡ false) };
@@ -67,8 +66,8 @@ pub trait Stores {
     /// The rows of a store of the version before, migrated to a store that is made in a file. The
     /// old store stays.
     fn migrate(&self, alloc: Global, from: &str, to: &str) -> Result<Self::File, OpenError>
-        ensures { IfOk result (λ tables. IfSome (migrated self.now from.now)
-            (λ rows. (Self.File.state tables).rows ≡ rows)) };
+        ensures { IfOk result (λ tables.
+            migrated self.now from.now (Self.File.state tables).rows) };
 
     /// Makes a new store in a file of the rows of another one, and closes it: of the institutions of some
     /// names, or of all where none is named. The answer is how many rows they are. The old store stays.
@@ -80,8 +79,8 @@ pub trait Stores {
         only: &[&str],
     ) -> Result<Result<u64, Unclosed>, OpenError>
         ensures { IfOk result (λ ended. IfOk ended (λ count. (kept : List Row)
-            × closed self.now kept × IfSome
-            (copied self.now from.now (map (λ name. name.now) only.now)) (λ rows. kept ≡ rows)
+            × closed self.now kept
+            × copied self.now from.now (map (λ name. name.now) only.now) kept
             × (length kept ≡ count))) };
 
     /// Copies all rows of a store into a new file at a path, and closes that. The store is only read,
@@ -97,8 +96,4 @@ pub trait Stores {
 
     /// Nothing but the program writes memory.
     ghost memory_is_honest: { (tables : Self.Memory) → (Self.Memory.state tables).honest };
-
-    /// Nor a store that is known.
-    ghost known_is_honest: { (it : Self) (path : List ℕ) (rows : List Row)
-        → stored it path ≡ Some rows → (tables : Self.File) → (Self.File.state tables).honest };
 }

@@ -201,7 +201,7 @@ brief_starts h (key ∷ keys) rows rising =
 
 -- ---- any change
 
-without_swapped : (later : List Addition) (rs : List Record) → lasting_records (without later rs) ≡ without later (lasting_records rs)
+pub without_swapped : (later : List Addition) (rs : List Record) → lasting_records (without later rs) ≡ without later (lasting_records rs)
 unfolding lasting_records without
 without_swapped later rs = swapped (λ (r : Record). is_lasting r.kind) (λ (r : Record). not (is_later later r)) rs
 

@@ -1,12 +1,11 @@
 -- The records that were there before some were added, as they are found.
-use Rattle.std.proofs.Common.{◌≡◌, ℕ, zero, suc, ◌+◌, ◌==◌, Bool, true, false, not, ◌&&◌, ◌||◌, List, [], ◌∷◌, map, filter, length, take, drop, Option, Some, None, option_map, refl, sym, ap, subst, ◌∙◌, if◌then◌else◌, arith}
+use Rattle.std.proofs.Common.{◌≡◌, ℕ, zero, suc, ◌+◌, Bool, true, false, not, ◌&&◌, ◌||◌, List, [], ◌∷◌, map, filter, length, take, drop, Option, Some, None, option_map, refl, sym, ap, subst, ◌∙◌, if◌then◌else◌, arith}
 use Rattle.std.specs.List.{AllByRecursion}
 use Rattle.std.specs.Option.{option_to_list}
 use Rattle.std.specs.Str.{bytes_eq}
 use Rattle.std.specs.Ordering.{is_gt}
 use Rattle.std.specs.declared.cmp.Ordering.TheVariants.{Less}
-use Rattle.std.proofs.lemmas.Bool.{and_parts}
-use Rattle.std.proofs.lemmas.Bool.Decides.{nat_tests}
+use Rattle.std.proofs.lemmas.Bool.{and_parts, or_parts}
 use Rattle.std.proofs.lemmas.Cmp.{nat_list_cmp_total, tied_itself}
 use Rattle.std.proofs.lemmas.List.{drop-take}
 use Rattle.std.proofs.lemmas.Slice.Eq.{bytes_eq-Decides}
@@ -19,10 +18,10 @@ use Rattle.dq_tables.specs.StudyChoices.{is_chosen, studies_among}
 use Rattle.dq_tables.specs.Lookups.{same_kind, record_at, records_of, records_above, records_after}
 use Rattle.dq_tables.specs.Records.{AreInOrder}
 use Rattle.dq_tables.proofs.RecordLists.{one_kind, its_kind, in_order_filter}
-use Rattle.dq_tables.proofs.Order.{each_passed, each_weaker, filter_all, both_tests}
+use Rattle.dq_tables.proofs.Order.{each_filtered, each_passed, each_weaker, filter_all, both_tests}
 use Rattle.dq_tables.proofs.OwnRows.{filter_map_row}
 use Rattle.dq_archive.specs.declared.additions.Addition.{Addition}
-use Rattle.dq_archive.specs.Additions.{is_added, is_later, without, is_touched, unless_later}
+use Rattle.dq_archive.specs.Additions.{is_added, is_later, of_kind, without, is_touched, unless_later}
 use Rattle.dq_archive.proofs.UniqueKeys.{only_named}
 
 abbrev stays : List Addition → Record → Bool
@@ -74,16 +73,11 @@ not_added added kind above r k u free true is =
     let above_is : added.above ≡ above = sym ((bytes_eq-Decides r.above added.above).0 keys.1) ∙ (bytes_eq-Decides r.above above).0 u in
     absurd (cc (sym free ∙ (λ i. its_kind added.kind kind kind_is i && (bytes_eq-Decides added.above above).1 above_is i)))
 
-untouched_step : (a b : Bool) → (a || b) ≡ false → (a ≡ false) × (b ≡ false)
-untouched_step false false e = (refl, refl)
-untouched_step false true e = absurd cc
-untouched_step true b e = absurd cc
-
 untouched_one : (later : List Addition) (kind : Kind) (above : List ℕ) (r : Record) → is_touched later kind above ≡ false
     → same_kind r.kind kind ≡ true → bytes_eq r.above above ≡ true → is_later later r ≡ false
 untouched_one [] kind above r free k u = refl
 untouched_one (added ∷ later) kind above r free k u =
-    let parts = untouched_step (same_kind added.kind kind && bytes_eq added.above above) (is_touched later kind above) free in
+    let parts = or_parts (same_kind added.kind kind && bytes_eq added.above above) (is_touched later kind above) free in
     rw (not_added added kind above r k u parts.0 (is_added added r) refl) (untouched_one later kind above r parts.1 k u)
 
 pub untouched_above : (later : List Addition) (kind : Kind) (above : List ℕ) (records : List Record) → is_touched later kind above ≡ false
@@ -189,7 +183,7 @@ unfolding without
 none_left_out [] = refl
 none_left_out (r ∷ rs) = ap (λ l. r ∷ l) (none_left_out rs)
 
-pub first_left : (later : List Addition) (m n : ℕ) (rs : List Record) → n ≡ m + length later → AreInOrder rs
+first_left : (later : List Addition) (m n : ℕ) (rs : List Record) → n ≡ m + length later → AreInOrder rs
     → take m (without later rs) ≡ take m (without later (take n rs))
 first_left [] m n rs e ordered =
     ap (take m) (none_left_out rs) ∙ sym (take_twice m rs) ∙ ap (λ k. take m (take k rs)) (omega arith) ∙ sym (ap (take m) (none_left_out (take n rs)))
@@ -200,16 +194,63 @@ first_left (added ∷ later) m n rs e ordered =
     ∙ sym (one_less added m (without later (take n rs)) (in_order_without later (take n rs) (in_order_take n rs ordered)))
     ∙ sym (ap (take m) (but_more added later (take n rs)))
 
--- a part of them from a place on
-pub part_left : (later : List Addition) (from most n : ℕ) (rs : List Record) → n ≡ from + most + length later → AreInOrder rs
-    → take most (drop from (without later rs)) ≡ take most (drop from (without later (take n rs)))
-part_left later from most n rs e ordered =
-    sym (drop-take from most (without later rs)) ∙ ap (drop from) (first_left later (from + most) n rs e ordered)
-    ∙ drop-take from most (without later (take n rs))
+-- ---- of records of a kind, only additions of that kind are left out
 
-pub nothing_left_out : (later : List Addition) (rs : List Record) → (length later == 0) ≡ true → rs ≡ without later rs
-nothing_left_out [] rs e = sym (none_left_out rs)
-nothing_left_out (added ∷ later) rs e = absurd (grind (arith, nat_tests))
+other_kind : (added : Addition) (kind : Kind) (r : Record) → same_kind r.kind kind ≡ true → same_kind added.kind kind ≡ false
+    → (b : Bool) → is_added added r ≡ b → b ≡ false
+other_kind added kind r k other false is = refl
+other_kind added kind r k other true is =
+    let parts = and_parts (same_kind r.kind added.kind) (bytes_eq r.key added.key && bytes_eq r.above added.above) is in
+    absurd (cc (sym other ∙ its_kind added.kind kind (sym (one_kind r.kind added.kind parts.0) ∙ one_kind r.kind kind k)))
+
+later_by : (added : Addition) (later : List Addition) (kind : Kind) (r : Record) → same_kind r.kind kind ≡ true → (b : Bool) → same_kind added.kind kind ≡ b
+    → is_later later r ≡ is_later (of_kind kind later) r
+    → (is_added added r || is_later later r) ≡ is_later (if b then added ∷ of_kind kind later else of_kind kind later) r
+later_by added later kind r k true is rest = ap (λ (b : Bool). is_added added r || b) rest
+later_by added later kind r k false is rest = rw (other_kind added kind r k is (is_added added r) refl) rest
+
+later_of : (kind : Kind) (later : List Addition) (r : Record) → same_kind r.kind kind ≡ true → is_later later r ≡ is_later (of_kind kind later) r
+later_of kind [] r k = refl
+later_of kind (added ∷ later) r k = later_by added later kind r k (same_kind added.kind kind) refl (later_of kind later r k)
+
+abbrev pub AreOf : Kind → List Record → Type 0
+AreOf kind rs = AllByRecursion (λ (r : Record). same_kind r.kind kind ≡ true) rs
+
+without_of : (kind : Kind) (later : List Addition) (rs : List Record) → AreOf kind rs → without later rs ≡ without (of_kind kind later) rs
+unfolding without
+without_of kind later [] each = refl
+without_of kind later (r ∷ rs) each =
+    λ i. if not (later_of kind later r each.0 i) then r ∷ without_of kind later rs each.1 i else without_of kind later rs each.1 i
+
+pub are_of : (kind : Kind) (records : List Record) → AreOf kind (records_of kind records)
+unfolding records_of
+are_of kind records = each_passed (λ (r : Record). same_kind r.kind kind ≡ true) (λ (r : Record). same_kind r.kind kind) (λ r k. k) records
+
+pub are_of_after : (kind : Kind) (key : List ℕ) (records : List Record) → AreOf kind (records_after kind key records)
+unfolding records_after
+are_of_after kind key records =
+    each_filtered (λ (r : Record). same_kind r.kind kind ≡ true) (λ (r : Record). is_gt (octet_order r.key key)) (records_of kind records) (are_of kind records)
+
+module _ (kind : Kind) (later : List Addition) (rs : List Record) (of : AreOf kind rs) where
+  pub first_of_kind : (m n : ℕ) → n ≡ m + length (of_kind kind later) → AreInOrder rs → take m (without later rs) ≡ take m (without later (take n rs))
+  first_of_kind m n e ordered =
+      ap (take m) (without_of kind later rs of)
+      ∙ first_left (of_kind kind later) m n rs e ordered
+      ∙ ap (take m) (sym (without_of kind later (take n rs) (each_taken (λ (r : Record). same_kind r.kind kind ≡ true) n rs of)))
+
+  -- a part of them from a place on
+  pub part_left : (from most n : ℕ) → n ≡ from + most + length (of_kind kind later) → AreInOrder rs
+      → take most (drop from (without later rs)) ≡ take most (drop from (without later (take n rs)))
+  part_left from most n e ordered =
+      sym (drop-take from most (without later rs)) ∙ ap (drop from) (first_of_kind (from + most) n e ordered)
+      ∙ drop-take from most (without later (take n rs))
+
+  pub nothing_left_out : length (of_kind kind later) ≡ 0 → rs ≡ without later rs
+  nothing_left_out e = none_of (of_kind kind later) e ∙ sym (without_of kind later rs of)
+    where
+      none_of : (own : List Addition) → length own ≡ 0 → rs ≡ without own rs
+      none_of [] e = sym (none_left_out rs)
+      none_of (added ∷ own) e = absurd (omega (arith, e))
 
 pub after_in_order : (kind : Kind) (records : List Record) (key : List ℕ) → AreInOrder (records_of kind records) → AreInOrder (records_after kind key records)
 unfolding records_after

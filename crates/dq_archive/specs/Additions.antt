@@ -20,6 +20,10 @@ is_added added r =
 abbrev pub is_later : List Addition → Record → Bool
 is_later later r = list_any (λ (added : Addition). is_added added r) later
 
+-- those of a kind
+abbrev pub of_kind : Kind → List Addition → List Addition
+of_kind kind later = filter (λ (added : Addition). same_kind added.kind kind) later
+
 -- The studies, the series and the images last: one is added, and neither changed nor taken away.
 abbrev pub is_lasting : Kind → Bool
 is_lasting Study = true

@@ -1,10 +1,10 @@
 //! Records that were added after a moment.
-ghost use Rattle.std.specs.Prelude.{◌≡◌, ◌&&◌, ◌++◌, not, map, filter, IfOk, OnOk};
+ghost use Rattle.std.specs.Prelude.{◌≡◌, ◌&&◌, ◌++◌, not, map, filter, length, IfOk, OnOk};
 ghost use Rattle.std.specs.Option.{option_to_list};
 ghost use Rattle.std.specs.Str.{bytes_eq};
 ghost use Rattle.dq_tables.specs.declared.row.Row.{Row as TheRow};
 ghost use Rattle.dq_tables.specs.Rows.{record_of, same_kind};
-ghost use Rattle.dq_archive.specs.Additions.{is_added, is_later, is_touched, kept_under, added_by, added_if};
+ghost use Rattle.dq_archive.specs.Additions.{is_added, is_later, of_kind, is_touched, kept_under, added_by, added_if};
 
 use dq_list::Listed;
 use dq_tables::{Change, Kind, Row};
@@ -40,11 +40,18 @@ impl Addition {
             && row.above.as_slice() == self.above.as_slice()
     }
 
+    /// Whether it is of a kind.
+    fn is_of(&self, kind: Kind) -> bool
+        ensures { result ≡ same_kind self.now.kind kind }
+    {
+        self.kind.number() == kind.number()
+    }
+
     /// Whether it is of a kind and under the record with a key.
     fn is_under(&self, kind: Kind, above: &[u8]) -> bool
         ensures { result ≡ (same_kind self.now.kind kind && bytes_eq self.now.above above.now) }
     {
-        self.kind.number() == kind.number() && self.above.as_slice() == above
+        self.is_of(kind) && self.above.as_slice() == above
     }
 }
 
@@ -53,6 +60,13 @@ pub(crate) fn is_later(later: &[Addition], row: &Row) -> bool
     ensures { result ≡ is_later later.now (record_of row.now) }
 {
     later.iter().any(|added| added.is(row))
+}
+
+/// How many records of a kind were added.
+pub(crate) fn count_of(later: &[Addition], kind: Kind) -> usize
+    ensures { result ≡ length (of_kind kind later.now) }
+{
+    later.iter().filter(|added| added.is_of(kind)).count()
 }
 
 /// Whether a record of a kind was added under the record with a key.

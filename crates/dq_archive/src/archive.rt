@@ -1,8 +1,7 @@
 //! One institution's part of the rows that tables keep.
-ghost use Rattle.std.specs.Prelude.{◌≡◌, is_some, length, take, drop, map, option_map, OnOk};
+ghost use Rattle.std.specs.Prelude.{◌≡◌, is_some, length, map, option_map, OnOk};
 ghost use Rattle.dq_tables.specs.Rows.{row_of};
-ghost use Rattle.dq_tables.specs.Lookups.{record_at, records_of, records_above, records_after, waiting_among};
-ghost use Rattle.dq_tables.specs.StudyChoices.{studies_among};
+ghost use Rattle.dq_tables.specs.Lookups.{record_at, records_of, waiting_among};
 ghost use Rattle.dq_tables.specs.ServiceEffects.{Serves};
 ghost use Rattle.dq_archive.specs.Archives.{IsOver, IsSame, state_in, QueriesOnly};
 ghost use Rattle.dq_archive.specs.Decisions.{answer_and_edits, IsOwn, FitsIf};
@@ -13,7 +12,7 @@ use crate::decision::Decision;
 use dq_config::Institution;
 use dq_list::Listed;
 use dq_tables::laws::honest_rows_are_sound;
-use dq_tables::{Choice, Kind, Row, TableFault, Tables, make_change};
+use dq_tables::{Kind, Row, TableFault, Tables, make_change};
 use std::alloc::Global;
 
 /// One institution's records, among the rows of several that tables keep. They are looked up here,
@@ -64,67 +63,6 @@ impl<'a, T: Tables> Archive<'a, T> {
     {
         let name = self.institution.name.as_slice();
         self.tables.count(kind, name)
-    }
-
-    /// The institution's records of a kind from a place on, at most so many, as rows in the order of
-    /// their keys.
-    pub fn rows_from(
-        &mut self,
-        kind: Kind,
-        from: usize,
-        most: usize,
-    ) -> Result<Listed<Row>, TableFault>
-        ensures { QueriesOnly T.state self.old self.new (λ records.
-            map (row_of self.old.institution.now.name)
-            (take most (drop from (records_of kind records)))) result }
-    {
-        let name = self.institution.name.as_slice();
-        self.tables.rows_from(kind, name, from, most)
-    }
-
-    /// The institution's records of a kind with keys behind a key, at most so many, as rows in the
-    /// order of their keys.
-    pub fn rows_after(
-        &mut self,
-        kind: Kind,
-        key: &[u8],
-        most: usize,
-    ) -> Result<Listed<Row>, TableFault>
-        ensures { QueriesOnly T.state self.old self.new (λ records.
-            map (row_of self.old.institution.now.name)
-            (take most (records_after kind key.now records))) result }
-    {
-        let name = self.institution.name.as_slice();
-        self.tables.rows_after(kind, name, key, most)
-    }
-
-    /// The records of a kind under the record with the key `above`, as rows in the order of their
-    /// keys.
-    pub fn rows_above(&mut self, kind: Kind, above: &[u8]) -> Result<Listed<Row>, TableFault>
-        ensures { QueriesOnly T.state self.old self.new (λ records.
-            map (row_of self.old.institution.now.name) (records_above kind above.now records))
-            result }
-    {
-        let name = self.institution.name.as_slice();
-        self.tables.rows_above(kind, name, above)
-    }
-
-    /// Counts the institution's records of a kind under the record with the key `above`.
-    pub fn count_above(&mut self, kind: Kind, above: &[u8]) -> Result<u64, TableFault>
-        ensures { QueriesOnly T.state self.old self.new
-            (λ records. length (records_above kind above.now records)) result }
-    {
-        let name = self.institution.name.as_slice();
-        self.tables.count_above(kind, name, above)
-    }
-
-    /// The studies that a choice takes, as rows in the order of their keys.
-    pub fn studies_in(&mut self, choice: &Choice) -> Result<Listed<Row>, TableFault>
-        ensures { QueriesOnly T.state self.old self.new (λ records.
-            map (row_of self.old.institution.now.name) (studies_among choice.now records)) result }
-    {
-        let name = self.institution.name.as_slice();
-        self.tables.studies_in(name, choice)
     }
 
     /// The worklist entries that wait, as rows: no performed procedure step has started them (PS3.4

@@ -6,7 +6,7 @@ ghost use Rattle.dq_tables.specs.StudyChoices.{studies_among};
 ghost use Rattle.dq_archive.specs.Additions.{unless_later};
 ghost use Rattle.dq_archive.specs.PastArchives.{IsOver, QueriesOnly};
 
-use crate::additions::{Addition, before, is_later, is_touched};
+use crate::additions::{Addition, before, count_of, is_later, is_touched};
 use dq_config::Institution;
 use dq_list::Listed;
 use dq_tables::laws::honest_rows_are_sound;
@@ -69,13 +69,14 @@ impl<'a, T: Tables> Past<'a, T> {
     {
         honest_rows_are_sound::<T>();
         let name = self.institution.name.as_slice();
-        if self.later.is_empty() {
+        let added = count_of(self.later, kind);
+        if added == 0 {
             return self.tables.rows_from(kind, name, from, most);
         }
         let Some(end) = from.checked_add(most) else {
             return Err(TableFault::NoMemory);
         };
-        let Some(all) = end.checked_add(self.later.len()) else {
+        let Some(all) = end.checked_add(added) else {
             return Err(TableFault::NoMemory);
         };
         let rows = self.tables.rows_from(kind, name, 0, all)?;
@@ -97,10 +98,11 @@ impl<'a, T: Tables> Past<'a, T> {
     {
         honest_rows_are_sound::<T>();
         let name = self.institution.name.as_slice();
-        if self.later.is_empty() {
+        let added = count_of(self.later, kind);
+        if added == 0 {
             return self.tables.rows_after(kind, name, key, most);
         }
-        let Some(all) = most.checked_add(self.later.len()) else {
+        let Some(all) = most.checked_add(added) else {
             return Err(TableFault::NoMemory);
         };
         let rows = self.tables.rows_after(kind, name, key, all)?;

@@ -1,8 +1,8 @@
 -- Only the last input closes.
 use Rattle.std.proofs.Common.{List, [], ◌∷◌, ◌++◌, map, Option, Some, None, refl}
-use Rattle.dq_pdu.specs.declared.role.Role.{Role}
-use Rattle.dq_pdu.specs.declared.role.Role.TheVariants.{Asks, Carries, Ends}
-use Rattle.dq_pdu.specs.declared.role.Ending.TheVariants.{ReleaseAsked, AbortSent, OutOfPlace}
+use Rattle.dq_assoc.specs.Roles.{Role}
+use Rattle.dq_assoc.specs.Roles.{Asks, Carries, Ends}
+use Rattle.dq_assoc.specs.Roles.{ReleaseAsked, AbortSent, OutOfPlace}
 use Rattle.dq_pdu.specs.declared.fault.PduFault.{PduFault}
 use Rattle.dq_dimse.specs.Received.{Message}
 use Rattle.dq_dimse.specs.declared.fault.DimseFault.{DimseFault}
@@ -17,7 +17,7 @@ closing-ends [] (Some fault) = refl
 closing-ends (Asks request ∷ roles) fault = refl
 closing-ends (Carries pdvs ∷ roles) fault = refl
 closing-ends (Ends ReleaseAsked ∷ roles) fault = refl
-closing-ends (Ends AbortSent ∷ roles) fault = refl
+closing-ends (Ends (AbortSent source reason) ∷ roles) fault = refl
 closing-ends (Ends OutOfPlace ∷ roles) fault = refl
 
 past-ends : (f : Option DimseFault) (later : List Input) → AreAfterRequest later → AreAfterRequest (inputs_past f later)
@@ -38,5 +38,5 @@ inputs-end (Asks request ∷ roles) fault =
     read-ends (messages (context_ids (agreement_of request)) (leading_pdvs roles)) _ (closing-ends (after_leading_pdvs roles) fault)
 inputs-end (Carries pdvs ∷ roles) fault = refl
 inputs-end (Ends ReleaseAsked ∷ roles) fault = refl
-inputs-end (Ends AbortSent ∷ roles) fault = refl
+inputs-end (Ends (AbortSent source reason) ∷ roles) fault = refl
 inputs-end (Ends OutOfPlace ∷ roles) fault = refl

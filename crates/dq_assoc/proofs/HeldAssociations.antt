@@ -4,12 +4,11 @@ use Rattle.std.specs.Prelude.{is_none, is_some, option_map}
 use Rattle.std.proofs.lemmas.List.{append-nil}
 use Rattle.std.specs.declared.alloc.AllocError.{AllocError}
 use Rattle.dq_pdu.specs.declared.fault.PduFault.{PduFault}
-use Rattle.dq_pdu.specs.declared.pdu.Pdu.{Pdu}
 use Rattle.dq_pdu.specs.declared.pdu.Pdu.TheVariants.{Request as request_pdu}
 use Rattle.dq_pdu.specs.declared.pdu.Pdv.{Pdv}
 use Rattle.dq_pdu.specs.declared.pdu.Request.{Request}
-use Rattle.dq_pdu.specs.declared.role.Role.{Role}
-use Rattle.dq_pdu.specs.declared.role.Role.TheVariants.{Carries}
+use Rattle.dq_assoc.specs.Roles.{Role}
+use Rattle.dq_assoc.specs.Roles.{Carries}
 use Rattle.dq_dimse.specs.declared.fault.DimseFault.{DimseFault}
 use Rattle.dq_dimse.specs.declared.command.Message.{Message as HeldMessage}
 use Rattle.dq_dimse.specs.Received.{Message}
@@ -31,9 +30,12 @@ use Rattle.dq_assoc.specs.Associations as held
 use Rattle.dq_assoc.specs.Negotiation.{agreement_of, context_ids}
 use Rattle.dq_assoc.specs.After.{state_of, is_closed, agreement_in, is_sound_association, association_at, association_by, assembly_for, open_if, inputs_by, inputs_from}
 use Rattle.dq_assoc.specs.Inputs.{closing_input}
+use Rattle.dq_assoc.specs.declared.association_end.AssociationEnd.{AssociationEnd}
+use Rattle.dq_assoc.specs.declared.negotiation.Rejection.{Rejection}
+use Rattle.dq_assoc.specs.AssociationEnds.{last_pdu}
 use Rattle.dq_assoc.specs.Table.{line, requested_line, answer_octets}
 use Rattle.dq_assoc.specs.Holding.{Stands, IsStep, accepted_by, accepted_in, assembler_context, held_state, held_agreement, is_unspent, WasGivenPdus}
-use Rattle.dq_assoc.specs.Steps.{AssociationStep, pdvs_step, invalid_abort, step_of, step_of_inputs, open_outcome, after_messages, fault_answer}
+use Rattle.dq_assoc.specs.Steps.{AssociationStep, pdvs_step, invalid_abort, step_of, step_of_inputs, open_outcome, after_messages, closing, fault_end}
 use Rattle.dq_assoc.proofs.Sound.{nothing-added, fault-outcome, values-carried, role-closes, role-closed}
 use Rattle.dq_assoc.proofs.OnePdu.{requested-open}
 use Rattle.dq_assoc.proofs.Values.{ReadSo, none-read, one-read, fault-read, all-read}
@@ -69,47 +71,47 @@ opened_stands agreement accepted holding e given =
 
 -- a step without messages
 pub bare_step : (held : HeldStep) (step : AssociationStep) (accepted : List Accepted) → held.messages ≡ [] → step.messages ≡ [] → held.octets ≡ step.octets
-    → held.close ≡ step.close → IsStep accepted held step
-bare_step held step accepted e f octets close = record {
+    → held.close ≡ step.close → held.end ≡ step.end → IsStep accepted held step
+bare_step held step accepted e f octets close end = record {
   messages = subst (λ ms. AllRefine accepted held.messages ms) (sym f) (subst (λ hs. AllRefine accepted hs []) (sym e) tt);
   octets = octets;
   close = close;
+  end = end;
 }
 
 -- ---- steps
 
-abbrev IsClosing : Result HeldStep AllocError → List HeldMessage → Option Pdu → Type 0
-IsClosing result list answer = IfOk result (λ (step : HeldStep). step ≡ record { messages = list; octets = answer_octets answer; close = true })
+abbrev IsClosing : Result HeldStep AllocError → List HeldMessage → Option AssociationEnd → Type 0
+IsClosing result list end =
+    IfOk result (λ (step : HeldStep). step ≡ record { messages = list; octets = answer_octets (last_pdu end); close = true; end = end })
 
 abbrev Leads : Result HeldStep AllocError → AssociationStep → Type 0
 Leads result step = IfOk result (λ (held : HeldStep). (accepted : List Accepted) → IsStep accepted held step)
 
-abbrev closing : Option Pdu → AssociationStep
-closing answer = record { messages = []; octets = answer_octets answer; close = true }
+-- a step that closes by an end
+pub closing_leads : (result : Result HeldStep AllocError) (list : List HeldMessage) (end other : Option AssociationEnd) (step : AssociationStep)
+    → IsClosing result list end → list ≡ [] → end ≡ other → closing other ≡ step → Leads result step
+closing_leads (Ok held) list end other step is e f to = grind (arith, bare_step)
+closing_leads (Err error) list end other step is e f to = tt
 
--- a step that closes with an answer
-pub closing_leads : (result : Result HeldStep AllocError) (list : List HeldMessage) (answer other : Option Pdu) (step : AssociationStep) → IsClosing result list answer
-    → list ≡ [] → answer ≡ other → record { messages = []; octets = answer_octets other; close = true } ≡ step → Leads result step
-closing_leads (Ok held) list answer other step is e f to = grind (arith, bare_step)
-closing_leads (Err error) list answer other step is e f to = tt
-
-pub fault_leads : (result : Result HeldStep AllocError) (list : List HeldMessage) (answer : Option Pdu) (h : HeldState) (fault : PduFault) → IsClosing result list answer
-    → list ≡ [] → answer ≡ fault_answer (state_of h) fault → IsTrue (is_sound_association h) → Leads result (step_of_inputs (state_of h) (inputs_by h [] (Some fault)))
-fault_leads result list answer h fault is e f sound =
-    closing_leads result list answer (fault_answer (state_of h) fault) (step_of_inputs (state_of h) (inputs_by h [] (Some fault))) is e f (fault-outcome h fault sound)
+pub fault_leads : (result : Result HeldStep AllocError) (list : List HeldMessage) (end : Option AssociationEnd) (h : HeldState) (fault : PduFault)
+    → IsClosing result list end → list ≡ [] → end ≡ fault_end (state_of h) fault → IsTrue (is_sound_association h) → Leads result (step_of_inputs (state_of h) (inputs_by h [] (Some fault)))
+fault_leads result list end h fault is e f sound =
+    closing_leads result list end (fault_end (state_of h) fault) (step_of_inputs (state_of h) (inputs_by h [] (Some fault))) is e f (fault-outcome h fault sound)
 
 -- messages, and a step after them
 pub after_stands : (accepted : List Accepted) (helds : List HeldMessage) (before : List Message) (held : HeldStep) (step : AssociationStep)
     → AllRefine accepted helds before → IsStep accepted held step
-    → IsStep accepted (record { messages = helds ++ held.messages; octets = held.octets; close = held.close }) (after_messages before step)
+    → IsStep accepted (record held { messages = helds ++ held.messages }) (after_messages before step)
 after_stands accepted helds before held step h is = record {
   messages = stand_append accepted helds held.messages before step.messages h is.messages;
   octets = is.octets;
   close = is.close;
+  end = is.end;
 }
 
 pub after_some : (accepted : List Accepted) (helds : List HeldMessage) (before : List Message) (result : Result HeldStep AllocError) (last : HeldStep) (step : AssociationStep)
-    → IfOk result (λ (held : HeldStep). held ≡ record { messages = helds ++ last.messages; octets = last.octets; close = last.close })
+    → IfOk result (λ (held : HeldStep). held ≡ record last { messages = helds ++ last.messages })
     → AllRefine accepted helds before → IsStep accepted last step → IfOk result (λ (held : HeldStep). IsStep accepted held (after_messages before step))
 after_some accepted helds before (Ok held) last step e h is =
     subst (λ (x : HeldStep). IsStep accepted x (after_messages before step)) (sym e) (after_stands accepted helds before last step h is)
@@ -118,20 +120,21 @@ after_some accepted helds before (Err error) last step e h is = tt
 -- messages, and nothing after them
 pub after_none : (accepted : List Accepted) (helds all : List HeldMessage) (before : List Message) (octets : List ℕ) (h : HeldState) (fault : Option PduFault)
     → IsTrue (is_sound_association h) → fault ≡ None → all ≡ helds → octets ≡ [] → AllRefine accepted helds before
-    → IsStep accepted (record { messages = all; octets = octets; close = false }) (after_messages before (open_outcome (inputs_from h [] fault)))
+    → IsStep accepted (record { messages = all; octets = octets; close = false; end = None }) (after_messages before (open_outcome (inputs_from h [] fault)))
 after_none accepted helds all before octets h fault sound f e o stand =
     let nothing : inputs_from h [] fault ≡ [] = ap (λ (g : Option PduFault). inputs_from h [] g) f ∙ nothing-added h sound in
-    subst (λ inputs. IsStep accepted (record { messages = all; octets = octets; close = false }) (after_messages before (open_outcome inputs))) (sym nothing)
+    subst (λ inputs. IsStep accepted (record { messages = all; octets = octets; close = false; end = None }) (after_messages before (open_outcome inputs))) (sym nothing)
     (record {
       messages = subst (λ (ms : List Message). AllRefine accepted all ms) (sym (append-nil before))
           (subst (λ (hs : List HeldMessage). AllRefine accepted hs before) (sym e) stand);
       octets = o;
       close = refl;
+      end = refl;
     })
 
 -- ---- the request
 
-pub accepted_given : (result : Result HeldStep AllocError) (request : Request) (rejected : Option Pdu) (new : HeldAssociation)
+pub accepted_given : (result : Result HeldStep AllocError) (request : Request) (rejected : Option Rejection) (new : HeldAssociation)
     → let l = requested_line request rejected in
     IfOk result (λ (step : HeldStep). (accepted : List Accepted) → IsStep accepted step (step_of l))
     → OnOk result (Stands new (association_at l.next request))
@@ -262,11 +265,12 @@ unfaulty None e = refl
 unfaulty (Some fault) e = absurd cc
 
 pub pdvs_read : (accepted : List Accepted) (helds : List HeldMessage) (octets : List ℕ) (read : Messages) → AllRefine accepted helds read.list
-    → octets ≡ [] → is_some read.fault ≡ false → IsStep accepted (record { messages = helds; octets = octets; close = false }) (pdvs_step read)
+    → octets ≡ [] → is_some read.fault ≡ false → IsStep accepted (record { messages = helds; octets = octets; close = false; end = None }) (pdvs_step read)
 pdvs_read accepted helds octets read stand e f = record {
   messages = stand;
-  octets = e ∙ ap (λ (d : Option DimseFault). answer_octets (option_map invalid_abort d)) (sym (unfaulty read.fault f));
+  octets = e ∙ ap (λ (d : Option DimseFault). answer_octets (last_pdu (option_map invalid_abort d))) (sym (unfaulty read.fault f));
   close = sym f;
+  end = ap (λ (d : Option DimseFault). option_map invalid_abort d) (sym (unfaulty read.fault f));
 }
 
 abbrev StepsTo : Result HeldStep AllocError → List Accepted → AssociationStep → Type 0
@@ -288,13 +292,13 @@ carried_step result old agreement holding role pdvs slice association e r v stan
 
 -- a PDU that closes an open association
 pub role_leads : (result : Result HeldStep AllocError) (old : HeldAssociation) (agreement : Agreement) (holding : Holding) (role : Role) (association : HeldState)
-    (list : List HeldMessage) (answer : Option Pdu) → code.Open agreement holding ≡ old → Stands old association → IsTrue (is_unspent old)
-    → ((pdvs : List Pdv) → role ≡ Carries pdvs → ⊥) → list ≡ [] → answer ≡ (line state.Open verdict.Accept (closing_input role)).answer
-    → IsClosing result list answer → Leads result (step_of_inputs (state_of association) (inputs_by association (role ∷ []) None))
-role_leads result old agreement holding role association list answer e stands unspent other none is closing =
+    (list : List HeldMessage) (end : Option AssociationEnd) → code.Open agreement holding ≡ old → Stands old association → IsTrue (is_unspent old)
+    → ((pdvs : List Pdv) → role ≡ Carries pdvs → ⊥) → list ≡ [] → end ≡ (line state.Open verdict.Accept (closing_input role)).end
+    → IsClosing result list end → Leads result (step_of_inputs (state_of association) (inputs_by association (role ∷ []) None))
+role_leads result old agreement holding role association list end e stands unspent other none is closes =
     let s = subst (λ (x : HeldAssociation). Stands x association) (sym e) stands in
     let sound = subst (λ (h : HeldState). IsTrue (is_sound_association h)) s.1 (stands_sound old association stands unspent) in
-    closing_leads result list answer (line state.Open verdict.Accept (closing_input role)).answer _ closing none is
+    closing_leads result list end (line state.Open verdict.Accept (closing_input role)).end _ closes none is
     (role-closes agreement s.0 role sound other ∙ ap (λ (h : HeldState). step_of_inputs (state_of h) (inputs_by h (role ∷ []) None)) (sym s.1))
 
 pub role_next : (old : HeldAssociation) (agreement : Agreement) (holding : Holding) (role : Role) (association : HeldState) → code.Open agreement holding ≡ old
@@ -320,19 +324,19 @@ on_ok_agreement : (result : Result HeldStep AllocError) (x y : Option Agreement)
 on_ok_agreement (Ok step) x y e = e
 on_ok_agreement (Err error) x y e = tt
 
-close_is : (result : Result HeldStep AllocError) (list : List HeldMessage) (answer : Option Pdu) (new : HeldAssociation) → IsClosing result list answer
+close_is : (result : Result HeldStep AllocError) (list : List HeldMessage) (end : Option AssociationEnd) (new : HeldAssociation) → IsClosing result list end
     → is_closed (held_state new) ≡ true → IfOk result (λ (step : HeldStep). step.close ≡ is_closed (held_state new))
-close_is (Ok step) list answer new is e = ap (λ (s : HeldStep). s.close) is ∙ sym e
-close_is (Err error) list answer new is e = tt
+close_is (Ok step) list end new is e = ap (λ (s : HeldStep). s.close) is ∙ sym e
+close_is (Err error) list end new is e = tt
 
 pub closed_default : (result : Result HeldStep AllocError) (old new : HeldAssociation) (agreement : Agreement) (holding : Holding) (role : Role)
-    (list : List HeldMessage) (answer : Option Pdu) → code.Open agreement holding ≡ old → new ≡ code.Closed (Some agreement) → IsTrue (is_unspent old)
-    → ((pdvs : List Pdv) → role ≡ Carries pdvs → ⊥) → list ≡ [] → answer ≡ (line state.Open verdict.Accept (closing_input role)).answer
-    → IsClosing result list answer → ClosedBy result old new role
-closed_default result old new agreement holding role list answer e closed unspent other none is closing = record {
+    (list : List HeldMessage) (end : Option AssociationEnd) → code.Open agreement holding ≡ old → new ≡ code.Closed (Some agreement) → IsTrue (is_unspent old)
+    → ((pdvs : List Pdv) → role ≡ Carries pdvs → ⊥) → list ≡ [] → end ≡ (line state.Open verdict.Accept (closing_input role)).end
+    → IsClosing result list end → ClosedBy result old new role
+closed_default result old new agreement holding role list end e closed unspent other none is closes = record {
   step = λ a h. steps_to result (accepted_in (held_agreement old)) _
-      (role_leads result old agreement holding role a list answer e h unspent other none is closing);
-  close = close_is result list answer new closing (ap (λ (x : HeldAssociation). is_closed (held_state x)) closed);
+      (role_leads result old agreement holding role a list end e h unspent other none is closes);
+  close = close_is result list end new closes (ap (λ (x : HeldAssociation). is_closed (held_state x)) closed);
   exact = λ a h. on_ok_stands result new (association_by a (role ∷ []))
       (subst (λ (x : HeldAssociation). Stands x (association_by a (role ∷ []))) (sym closed) (role_next old agreement holding role a e h other));
   agreement = on_ok_agreement result (held_agreement new) (held_agreement old) (ap held_agreement closed ∙ ap held_agreement e);

@@ -4,7 +4,7 @@ use Rattle.std.proofs.lemmas.List.{map-append}
 use Rattle.std.specs.declared.alloc.AllocError.{AllocError}
 use Rattle.dq_pdu.specs.declared.pdu.Pdu.{Pdu}
 use Rattle.dq_pdu.specs.declared.fault.PduFault.{PduFault}
-use Rattle.dq_pdu.specs.Roles.{role_of}
+use Rattle.dq_assoc.specs.Roles.{role_of}
 use Rattle.dq_dimse.specs.declared.assembler.Accepted.{Accepted}
 use Rattle.dq_dimse.specs.declared.command.Message.{Message as HeldMessage}
 use Rattle.dq_dimse.specs.declared.fault.DimseFault.{DimseFault}
@@ -35,13 +35,13 @@ unclosed [] later e = refl
 unclosed (Sent message ∷ first) later e = ap (with_message message) (unclosed first later e)
 unclosed (Requested request ∷ first) later e = absurd cc
 unclosed (Released ∷ first) later e = absurd cc
-unclosed (PeerAborted ∷ first) later e = absurd cc
+unclosed (PeerAborted source reason ∷ first) later e = absurd cc
 unclosed (Stray ∷ first) later e = absurd cc
 unclosed (Bad reason ∷ first) later e = absurd cc
 
 after-both : (list more : List Message) (step : AssociationStep) → after_messages (list ++ more) step ≡ after_messages list (after_messages more step)
 after-both list more step =
-    ap (λ (messages : List Message). record { messages = messages; octets = step.octets; close = step.close }) (append_assoc list more step.messages)
+    ap (λ (messages : List Message). record step { messages = messages }) (append_assoc list more step.messages)
 
 -- inputs that close end what comes after them
 closes : (first later : List Input) → (open_outcome first).close ≡ true → open_outcome (first ++ later) ≡ open_outcome first
@@ -49,7 +49,7 @@ closes [] later e = absurd cc
 closes (Sent message ∷ first) later e = ap (with_message message) (closes first later e)
 closes (Requested request ∷ first) later e = refl
 closes (Released ∷ first) later e = refl
-closes (PeerAborted ∷ first) later e = refl
+closes (PeerAborted source reason ∷ first) later e = refl
 closes (Stray ∷ first) later e = refl
 closes (Bad reason ∷ first) later e = refl
 
@@ -151,7 +151,7 @@ took_more old now new helds longer fault all done left later pdu step so l t c e
 pub took_last : (old now new : HeldAssociation) (helds : List HeldMessage) (fault : Option PduFault) (all done left later : List Pdu) (pdu : Pdu)
     (step : HeldStep) (result : Result HeldStep AllocError) → TookSome old now helds fault all done left → left ≡ pdu ∷ later → TookOne now new pdu step
     → step.close ≡ true
-    → IfOk result (λ (held : HeldStep). held ≡ record { messages = helds ++ step.messages; octets = step.octets; close = step.close })
+    → IfOk result (λ (held : HeldStep). held ≡ record step { messages = helds ++ step.messages })
     → (a : HeldState) → Stands old a → IfOk result (λ (held : HeldStep). IsStep (accepted_in (held_agreement old)) held (open_outcome (inputs_from a all fault)))
 took_last old now new helds fault all done left later pdu step (Ok held) so l t c e a h =
     grind (arith, one_leads, closes, inputs-cons, after_stands)

@@ -1,10 +1,10 @@
 -- PDUs that are taken one by one lead to what their inputs lead to together.
 use Rattle.std.proofs.Common.{◌≡◌, ◌≢◌, Bool, true, false, IsTrue, cond, List, [], ◌∷◌, ◌++◌, map, Option, Some, None, refl, sym, ap, ◌∙◌, arith}
 use Rattle.dq_pdu.specs.declared.pdu.Pdu.{Pdu}
-use Rattle.dq_pdu.specs.declared.role.Role.{Role}
-use Rattle.dq_pdu.specs.declared.role.Role.TheVariants.{Asks, Carries, Ends}
-use Rattle.dq_pdu.specs.declared.role.Ending.TheVariants.{ReleaseAsked, AbortSent, OutOfPlace}
-use Rattle.dq_pdu.specs.Roles.{role_of}
+use Rattle.dq_assoc.specs.Roles.{Role}
+use Rattle.dq_assoc.specs.Roles.{Asks, Carries, Ends}
+use Rattle.dq_assoc.specs.Roles.{ReleaseAsked, AbortSent, OutOfPlace}
+use Rattle.dq_assoc.specs.Roles.{role_of}
 use Rattle.dq_dimse.specs.Received.{Message}
 use Rattle.dq_dimse.specs.declared.fault.DimseFault.{DimseFault}
 use Rattle.dq_dimse.specs.Assembling.{Assembly, assembly_from, spent_by}
@@ -22,8 +22,8 @@ use Rattle.dq_assoc.proofs.FromHere.{inputs-cons}
 use Rattle.dq_assoc.proofs.Sound.{sound-by, read-nil}
 
 with-then : (b : Bool) (message : Message) (s later : AssociationStep)
-    → cond b (with_message message s) (record { messages = message ∷ (s.messages ++ later.messages); octets = s.octets ++ later.octets; close = later.close })
-    ≡ with_message message (cond b s (record { messages = s.messages ++ later.messages; octets = s.octets ++ later.octets; close = later.close }))
+    → cond b (with_message message s) (record { messages = message ∷ (s.messages ++ later.messages); octets = s.octets ++ later.octets; close = later.close; end = later.end })
+    ≡ with_message message (cond b s (record { messages = s.messages ++ later.messages; octets = s.octets ++ later.octets; close = later.close; end = later.end }))
 with-then true message s later = refl
 with-then false message s later = refl
 
@@ -45,8 +45,8 @@ one-then (held.Open a s) (Asks request) later sound begun =
     rw (read-nil s sound (closing_input (Asks request) ∷ [])) refl
 one-then (held.Open a s) (Ends ReleaseAsked) later sound begun =
     rw (read-nil s sound (closing_input (Ends ReleaseAsked) ∷ [])) refl
-one-then (held.Open a s) (Ends AbortSent) later sound begun =
-    rw (read-nil s sound (closing_input (Ends AbortSent) ∷ [])) refl
+one-then (held.Open a s) (Ends (AbortSent source reason)) later sound begun =
+    rw (read-nil s sound (closing_input (Ends (AbortSent source reason)) ∷ [])) refl
 one-then (held.Open a s) (Ends OutOfPlace) later sound begun =
     rw (read-nil s sound (closing_input (Ends OutOfPlace) ∷ [])) refl
 one-then (held.Closed agreed) role later sound begun = refl

@@ -3,9 +3,9 @@ use Rattle.std.proofs.Common.{◌≡◌, true, false, IsTrue, List, [], ◌∷�
 use Rattle.std.specs.Prelude.{is_none, is_some}
 use Rattle.std.proofs.lemmas.List.{append-nil}
 use Rattle.dq_pdu.specs.declared.pdu.Pdv.{Pdv}
-use Rattle.dq_pdu.specs.declared.role.Role.{Role}
-use Rattle.dq_pdu.specs.declared.role.Role.TheVariants.{Asks, Carries, Ends}
-use Rattle.dq_pdu.specs.declared.role.Ending.TheVariants.{ReleaseAsked, AbortSent, OutOfPlace}
+use Rattle.dq_assoc.specs.Roles.{Role}
+use Rattle.dq_assoc.specs.Roles.{Asks, Carries, Ends}
+use Rattle.dq_assoc.specs.Roles.{ReleaseAsked, AbortSent, OutOfPlace}
 use Rattle.dq_pdu.specs.declared.fault.PduFault.{PduFault}
 use Rattle.dq_dimse.specs.Received.{Message}
 use Rattle.dq_dimse.specs.declared.fault.DimseFault.{DimseFault}
@@ -17,10 +17,10 @@ use Rattle.dq_assoc.specs.Associations as held
 use Rattle.dq_assoc.specs.declared.association.State.TheVariants.{Open}
 use Rattle.dq_assoc.specs.declared.association.Verdict.TheVariants.{Accept}
 use Rattle.dq_assoc.specs.Negotiation.{agreement_of}
-use Rattle.dq_assoc.specs.Table.{Input, Sent, Bad, line, answer_octets}
+use Rattle.dq_assoc.specs.Table.{Input, Sent, Bad, line}
 use Rattle.dq_assoc.specs.Inputs.{leading_pdvs, after_leading_pdvs, reason_of, closing_input, inputs_past, inputs_of_messages}
 use Rattle.dq_assoc.specs.After.{state_of, is_sound_association, open_if, open_with, assembly_for, association_by, inputs_by}
-use Rattle.dq_assoc.specs.Steps.{with_message, open_outcome, step_of_inputs, fault_inputs, fault_answer, pdvs_step}
+use Rattle.dq_assoc.specs.Steps.{with_message, open_outcome, step_of_inputs, fault_inputs, closing, fault_end, pdvs_step}
 
 pub none_is : (o : Option DimseFault) → IsTrue (is_none o) → o ≡ None
 none_is None sound = refl
@@ -68,7 +68,7 @@ fault-added (held.Closed agreed) fault sound = refl
 
 -- what a fault leads to
 pub fault-outcome : (h : HeldState) (fault : PduFault) → IsTrue (is_sound_association h)
-    → record { messages = []; octets = answer_octets (fault_answer (state_of h) fault); close = true } ≡ step_of_inputs (state_of h) (inputs_by h [] (Some fault))
+    → closing (fault_end (state_of h) fault) ≡ step_of_inputs (state_of h) (inputs_by h [] (Some fault))
 fault-outcome held.Waiting fault sound = refl
 fault-outcome (held.Open a s) fault sound = ap open_outcome (sym (read-nil s sound (Bad (reason_of fault) ∷ [])))
 fault-outcome (held.Closed agreed) fault sound = refl
@@ -96,12 +96,11 @@ pub values-carried : (a : Agreement) (s : Assembly) (pdvs : List Pdv)
 values-carried a s pdvs = grind (arith, append-nil, values-outcome)
 
 pub role-closes : (a : Agreement) (s : Assembly) (role : Role) → IsTrue (is_sound_association (held.Open a s)) → ((pdvs : List Pdv) → role ≡ Carries pdvs → ⊥)
-    → record { messages = []; octets = answer_octets (line Open Accept (closing_input role)).answer; close = true }
-    ≡ step_of_inputs Open (inputs_by (held.Open a s) (role ∷ []) None)
+    → closing (line Open Accept (closing_input role)).end ≡ step_of_inputs Open (inputs_by (held.Open a s) (role ∷ []) None)
 role-closes a s (Asks request) sound not = ap open_outcome (sym (read-nil s sound (closing_input (Asks request) ∷ [])))
 role-closes a s (Carries pdvs) sound not = absurd (not pdvs refl)
 role-closes a s (Ends ReleaseAsked) sound not = ap open_outcome (sym (read-nil s sound (closing_input (Ends ReleaseAsked) ∷ [])))
-role-closes a s (Ends AbortSent) sound not = ap open_outcome (sym (read-nil s sound (closing_input (Ends AbortSent) ∷ [])))
+role-closes a s (Ends (AbortSent source reason)) sound not = ap open_outcome (sym (read-nil s sound (closing_input (Ends (AbortSent source reason)) ∷ [])))
 role-closes a s (Ends OutOfPlace) sound not = ap open_outcome (sym (read-nil s sound (closing_input (Ends OutOfPlace) ∷ [])))
 
 pub role-closed : (a : Agreement) (s : Assembly) (role : Role) → ((pdvs : List Pdv) → role ≡ Carries pdvs → ⊥)

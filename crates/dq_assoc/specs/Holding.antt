@@ -61,3 +61,4 @@ pub record IsStep (accepted : List Accepted) (held : HeldStep) (step : Associati
   pub messages : AllRefine accepted held.messages step.messages
   pub octets : held.octets ≡ step.octets
   pub close : held.close ≡ step.close
+  pub end : held.end ≡ step.end

@@ -3,12 +3,12 @@
 use Rattle.std.specs.Prelude.{◌≡◌, ℕ, List, [], ◌∷◌, ◌++◌, map, Option, Some, None}
 use Rattle.dq_pdu.specs.declared.pdu.Pdu.{Pdu}
 use Rattle.dq_pdu.specs.declared.pdu.Pdv.{Pdv}
-use Rattle.dq_pdu.specs.declared.role.Role.{Role}
-use Rattle.dq_pdu.specs.declared.role.Role.TheVariants.{Asks, Carries, Ends}
-use Rattle.dq_pdu.specs.declared.role.Ending.TheVariants.{ReleaseAsked, AbortSent, OutOfPlace}
+use Rattle.dq_assoc.specs.Roles.{Role}
+use Rattle.dq_assoc.specs.Roles.{Asks, Carries, Ends}
+use Rattle.dq_assoc.specs.Roles.{ReleaseAsked, AbortSent, OutOfPlace}
 use Rattle.dq_pdu.specs.declared.fault.PduFault.{PduFault}
 use Rattle.dq_pdu.specs.declared.fault.PduFault.TheVariants.{Unrecognized, TooLong, Malformed}
-use Rattle.dq_pdu.specs.Roles.{role_of}
+use Rattle.dq_assoc.specs.Roles.{role_of}
 use Rattle.dq_pdu.specs.Stream.{pdus_in}
 use Rattle.dq_dimse.specs.declared.fault.DimseFault.{DimseFault}
 use Rattle.dq_dimse.specs.Assembling.{Messages, messages}
@@ -38,7 +38,7 @@ reason_of Malformed = invalid_parameter
 -- what a PDU that carries no PDVs closes with after a request
 abbrev pub closing_input : Role → Input
 closing_input (Ends ReleaseAsked) = Released
-closing_input (Ends AbortSent) = PeerAborted
+closing_input (Ends (AbortSent source reason)) = PeerAborted source reason
 closing_input (Ends OutOfPlace) = Bad unexpected_pdu
 closing_input (Asks request) = Bad unexpected_pdu
 closing_input (Carries pdvs) = Bad unexpected_pdu
@@ -65,7 +65,7 @@ inputs_after ids roles fault =
 
 -- what a PDU that is no request is in a request's place
 abbrev pub misplaced_input : Role → Input
-misplaced_input (Ends AbortSent) = PeerAborted
+misplaced_input (Ends (AbortSent source reason)) = PeerAborted source reason
 misplaced_input (Ends ReleaseAsked) = Stray
 misplaced_input (Ends OutOfPlace) = Stray
 misplaced_input (Carries pdvs) = Stray
@@ -92,7 +92,7 @@ abbrev pub AreAfterRequest : List Input → Type 0
 AreAfterRequest [] = Unit {0}
 AreAfterRequest (Sent message ∷ inputs) = AreAfterRequest inputs
 AreAfterRequest (Released ∷ inputs) = inputs ≡ []
-AreAfterRequest (PeerAborted ∷ inputs) = inputs ≡ []
+AreAfterRequest (PeerAborted source reason ∷ inputs) = inputs ≡ []
 AreAfterRequest (Bad reason ∷ inputs) = inputs ≡ []
 AreAfterRequest (Requested request ∷ inputs) = ⊥
 AreAfterRequest (Stray ∷ inputs) = ⊥
@@ -101,7 +101,7 @@ AreAfterRequest (Stray ∷ inputs) = ⊥
 abbrev pub AreInputs : List Input → Type 0
 AreInputs [] = Unit {0}
 AreInputs (Requested request ∷ inputs) = AreAfterRequest inputs
-AreInputs (PeerAborted ∷ inputs) = inputs ≡ []
+AreInputs (PeerAborted source reason ∷ inputs) = inputs ≡ []
 AreInputs (Stray ∷ inputs) = inputs ≡ []
 AreInputs (Sent message ∷ inputs) = ⊥
 AreInputs (Released ∷ inputs) = ⊥

@@ -1,7 +1,9 @@
 pub mod Classes
 pub mod PeerLimits
 pub mod Reasons
+pub mod Roles
 pub mod Negotiation
+pub mod AssociationEnds
 pub mod Table
 pub mod Inputs
 pub mod Associations

@@ -17,6 +17,8 @@ use Rattle.dq_assoc.specs.declared.agreement.AcceptedContext.{AcceptedContext}
 use Rattle.dq_assoc.specs.declared.agreement.Agreement.{Agreement}
 use Rattle.dq_assoc.specs.declared.negotiation.ContextRefusal.{ContextRefusal}
 use Rattle.dq_assoc.specs.declared.negotiation.ContextRefusal.TheVariants.{AbstractSyntaxNotSupported, TransferSyntaxesNotSupported}
+use Rattle.dq_assoc.specs.declared.negotiation.Rejection.{Rejection}
+use Rattle.dq_assoc.specs.declared.negotiation.Rejection.TheVariants.{ProtocolVersion, ApplicationContext, MaximumLength, Titles, Associations}
 pub use Rattle.dq_assoc.specs.Reasons.{protocol_version, acceptance, permanent, transient, service_user, association_provider, presentation_provider, no_reason, application_context_not_supported, protocol_version_not_supported, local_limit_exceeded}
 use Rattle.dq_assoc.specs.Reasons.{abstract_syntax_not_supported, transfer_syntaxes_not_supported}
 use Rattle.dq_assoc.specs.declared.association.Verdict.{Verdict}
@@ -119,21 +121,27 @@ abbrev pub is_dicom : Option (List ℕ) → Bool
 is_dicom None = false
 is_dicom (Some name) = bytes_eq name dicom_context
 
--- no institution has the titles: which of them is unknown is not told
-abbrev pub unknown_rejection : Pdu
-unknown_rejection = Reject permanent service_user no_reason
+-- The result, the source and the reason of a rejection (PS3.8 section 9.3.4). Which title is unknown is not told, and
+-- the standard has no reason for a maximum length without room.
+abbrev pub rejection_numbers : Rejection → ℕ × ℕ × ℕ
+rejection_numbers ProtocolVersion = (permanent, association_provider, protocol_version_not_supported)
+rejection_numbers ApplicationContext = (permanent, service_user, application_context_not_supported)
+rejection_numbers MaximumLength = (permanent, service_user, no_reason)
+rejection_numbers Titles = (permanent, service_user, no_reason)
+rejection_numbers Associations = (transient, presentation_provider, local_limit_exceeded)
 
-abbrev pub verdict_rejection : Verdict → Option Pdu
+abbrev pub rejection_pdu : Rejection → Pdu
+rejection_pdu why = let numbers = rejection_numbers why in Reject numbers.0 numbers.1 numbers.2
+
+abbrev pub verdict_rejection : Verdict → Option Rejection
 verdict_rejection Accept = None
-verdict_rejection Nowhere = Some unknown_rejection
-verdict_rejection Busy = Some (Reject transient presentation_provider local_limit_exceeded)
+verdict_rejection Nowhere = Some Titles
+verdict_rejection Busy = Some Associations
 
--- The PDU that a request is rejected with, by reasons in this order.
-abbrev pub rejection : Request → Verdict → Option Pdu
+-- Why a request is rejected, by reasons in this order.
+abbrev pub rejection : Request → Verdict → Option Rejection
 rejection request verdict =
-    if not (request.version % 2 == 1)
-    then Some (Reject permanent association_provider protocol_version_not_supported)
-    else (if not (is_dicom request.application_context)
-    then Some (Reject permanent service_user application_context_not_supported)
-    else (if not (has_room_for_data request.maximum_length) then Some unknown_rejection
+    if not (request.version % 2 == 1) then Some ProtocolVersion
+    else (if not (is_dicom request.application_context) then Some ApplicationContext
+    else (if not (has_room_for_data request.maximum_length) then Some MaximumLength
     else verdict_rejection verdict))

@@ -1,25 +1,26 @@
 //! An association: what each PDU leads to, by the table of states (PS3.8 section 9.2).
 ghost use Rattle.std.specs.Prelude.{◌≡◌, ◌∷◌, [], ◌++◌, List, Option, true, false, if◌then◌else◌, IsTrue, IfOk, OnOk, Some, None, is_some};
-ghost use Rattle.std.specs.Option.{ForSome, option_copied};
+ghost use Rattle.std.specs.Option.{option_copied};
 ghost use Rattle.dq_pdu.specs.declared.fault.PduFault.{PduFault};
-ghost use Rattle.dq_pdu.specs.Writing.{IsWritable};
 ghost use Rattle.dq_dimse.specs.Assembling.{Assembly, spent_by, messages_from, assembly_from};
 ghost use Rattle.dq_dimse.specs.Holding.{Assembles, AllRefine, spent_with};
 ghost use Rattle.dq_dimse.specs.Received.{Message as Received};
 ghost use Rattle.dq_dimse.specs.declared.assembler.Accepted.{Accepted};
 ghost use Rattle.dq_assoc.specs.Negotiation.{agreement_of, acceptance_of, peer_limit};
 ghost use Rattle.dq_assoc.specs.Table.{Requested, accepted_line, line, answer_octets};
-ghost use Rattle.dq_assoc.specs.Inputs.{misplaced_input, closing_input, reason_of};
+ghost use Rattle.dq_assoc.specs.Inputs.{reason_of};
 ghost use Rattle.dq_assoc.specs.Associations.{HeldState as Pure};
-ghost use Rattle.dq_assoc.specs.After.{state_of, is_closed, association_at, association_by, association_from, open_if, inputs_by, inputs_from, TakesRole, TakesPdu};
-ghost use Rattle.dq_assoc.specs.Steps.{after_messages, step_of, pdvs_step, fault_answer, step_of_inputs};
+ghost use Rattle.dq_assoc.specs.After.{state_of, is_closed, association_at, association_from, open_if, inputs_from, TakesPdu};
+ghost use Rattle.dq_assoc.specs.AssociationEnds.{last_pdu};
+ghost use Rattle.dq_assoc.specs.Steps.{after_messages, step_of, pdvs_step, fault_end, step_of_inputs};
 ghost use Rattle.dq_assoc.specs.Holding.{IsStep, Stands, WasGivenPdus, accepted_by, accepted_in, held_agreement, held_state, is_unspent};
 
 use crate::agreement::{Agreement, PeerLimit};
+use crate::association_end::{AssociationEnd, INVALID_PARAMETER, UNRECOGNIZED_PDU};
 use crate::negotiation;
 use dq_dimse::{Assembler, DimseFault, Message};
 use dq_list::Listed;
-use dq_pdu::{Ending, Pdu, PduFault, Pdv, Request, Role, writable, write_pdu};
+use dq_pdu::{Pdu, PduFault, Pdv, Request, writable, write_pdu};
 use std::alloc::{AllocError, Global};
 use std::marker::Model;
 use std::mem;
@@ -46,13 +47,14 @@ pub enum Verdict {
     Busy,
 }
 
-/// The outcome of a PDU: messages to be answered first, then octets, and whether the connection is
-/// closed.
+/// The outcome of a PDU: messages to be answered first, then octets, whether the connection is
+/// closed, and how the association ends, if it does.
 #[derive(Drop)]
 pub struct Step {
     pub messages: Listed<Message>,
     pub octets: Listed<u8>,
     pub close: bool,
+    pub end: Option<AssociationEnd>,
 }
 
 /// The state that an association holds between two PDUs.
@@ -99,89 +101,53 @@ impl Model for Association {
     ghost invariant = { λ a. IsTrue (is_unspent a.held) };
 }
 
-/// The sources of an abort (PS3.8 table 9-26).
-const BY_USER: u8 = 0x00;
+/// The octets of the PDU that tells the peer of an end, if there is one.
+fn octets_of(alloc: Global, end: Option<AssociationEnd>) -> Result<Vec<u8>, AllocError>
+    ensures { IfOk result (λ octets. octets.items ≡ answer_octets (last_pdu end)) }
+{
+    let Some(end) = end else {
+        return Ok(Vec::new(alloc));
+    };
+    let pdu = end.pdu();
+    match &pdu {
+        None => Ok(Vec::new(alloc)),
+        Some(pdu) => write_pdu(alloc, pdu),
+    }
+}
 
-const BY_PROVIDER: u8 = 0x02;
-
-/// The reasons of an abort, all but the first of the provider (PS3.8 table 9-26).
-const NOT_SPECIFIED: u8 = 0x00;
-
-const UNRECOGNIZED_PDU: u8 = 0x01;
-
-const UNEXPECTED_PDU: u8 = 0x02;
-
-const INVALID_PARAMETER: u8 = 0x06;
-
-/// A step that closes after messages: with a PDU, if one is answered.
+/// A step that closes after messages, and tells how the association ends, if it does.
 fn closing_step(
     alloc: Global,
     messages: Listed<Message>,
-    answer: Option<Pdu>,
+    end: Option<AssociationEnd>,
 ) -> Result<Step, AllocError>
-    requires { ForSome answer IsWritable }
     ensures { IfOk result (λ step. step ≡ record {
       messages = messages;
-      octets = answer_octets answer;
+      octets = answer_octets (last_pdu end);
       close = true;
+      end = end;
     }) }
 {
-    let octets = match &answer {
-        None => Vec::new(alloc),
-        Some(pdu) => write_pdu(alloc, pdu)?,
-    };
     Ok(Step {
         messages,
-        octets: Listed::from_inner(octets),
+        octets: Listed::from_inner(octets_of(alloc, end)?),
         close: true,
+        end,
     })
 }
 
 /// A step after messages.
 fn after_messages(mut messages: Vec<Message>, last: Step) -> Result<Step, AllocError>
-    ensures { IfOk result (λ step. step ≡ record {
-      messages = messages.items ++ last.messages;
-      octets = last.octets;
-      close = last.close;
-    }) }
+    ensures { IfOk result (λ step.
+        step ≡ record last { messages = messages.items ++ last.messages }) }
 {
     messages.append(&mut last.messages.into_inner())?;
     Ok(Step {
         messages: Listed::from_inner(messages),
         octets: last.octets,
         close: last.close,
+        end: last.end,
     })
-}
-
-/// The answer to what is no request in a request's place.
-#[tactic(auto, using(crate::proofs::ShortPdus::abort_is_writable))]
-fn misplaced_answer(role: &Role) -> Option<Pdu>
-    ensures answer { result
-        ≡ (line State.Waiting Verdict.Accept (misplaced_input role.now)).answer }
-    ensures fits { ForSome result IsWritable }
-{
-    match role {
-        // AA-2
-        Role::Ends(Ending::AbortSent) => None,
-        // AA-1
-        _ => Some(Pdu::Abort(BY_USER, NOT_SPECIFIED)),
-    }
-}
-
-/// The answer of an open association to a PDU that closes it.
-#[tactic(auto, using(crate::proofs::ShortPdus::short_pdus))]
-fn closing_answer(role: &Role) -> Option<Pdu>
-    ensures answer { result ≡ (line State.Open Verdict.Accept (closing_input role.now)).answer }
-    ensures fits { ForSome result IsWritable }
-{
-    match role {
-        // AR-2 and AR-4
-        Role::Ends(Ending::ReleaseAsked) => Some(Pdu::ReleaseRp),
-        // AA-3
-        Role::Ends(Ending::AbortSent) => None,
-        // AA-8
-        _ => Some(Pdu::Abort(BY_PROVIDER, UNEXPECTED_PDU)),
-    }
 }
 
 /// The reason of the abort that answers a fault of the stream.
@@ -194,17 +160,13 @@ fn reason_of(fault: PduFault) -> u8
     }
 }
 
-/// The answer to a fault of the stream.
-#[tactic(auto, using(crate::proofs::ShortPdus::abort_is_writable))]
-fn fault_answer(state: State, fault: PduFault) -> Option<Pdu>
-    ensures answer { result ≡ fault_answer state fault }
-    ensures fits { ForSome result IsWritable }
+/// Returns the end that a fault of the stream brings.
+fn fault_end(state: State, fault: PduFault) -> Option<AssociationEnd>
+    ensures { result ≡ fault_end state fault }
 {
     match state {
-        // AA-1
-        State::Waiting => Some(Pdu::Abort(BY_USER, NOT_SPECIFIED)),
-        // AA-8
-        State::Open => Some(Pdu::Abort(BY_PROVIDER, reason_of(fault))),
+        State::Waiting => Some(AssociationEnd::user_abort()),
+        State::Open => Some(AssociationEnd::provider_abort(reason_of(fault))),
         State::Closed => None,
     }
 }
@@ -358,16 +320,15 @@ impl Association {
         self.hold(Held::Closed(None));
         match negotiation::peer_limit(&request, verdict) {
             Ok(limit) => self.open_unless_stray(&request, limit),
-            Err(rejected) => {
+            Err(rejection) => {
                 // AE-6, AE-8
-                let messages = Listed::empty(self.alloc);
-                closing_step(self.alloc, messages, Some(rejected))
+                let end = AssociationEnd::Rejected(rejection);
+                closing_step(self.alloc, Listed::empty(self.alloc), Some(end))
             }
         }
     }
 
     /// Answers a request that is not rejected.
-    #[tactic(auto, using(crate::proofs::ShortPdus::abort_is_writable))]
     fn open_unless_stray(&mut self, request: &Request, limit: PeerLimit) -> Result<Step, AllocError>
         requires closed { self.old ≡ Held.Closed None }
         requires limit { limit ≡ peer_limit request.now }
@@ -380,9 +341,8 @@ impl Association {
     {
         let answer = negotiation::acceptance(self.alloc, request)?;
         if !writable(&answer) {
-            // AA-1
-            let stray = Pdu::Abort(BY_USER, NOT_SPECIFIED);
-            return closing_step(self.alloc, Listed::empty(self.alloc), Some(stray));
+            let end = AssociationEnd::user_abort();
+            return closing_step(self.alloc, Listed::empty(self.alloc), Some(end));
         }
         // AE-7
         let octets = write_pdu(self.alloc, &answer)?;
@@ -392,11 +352,11 @@ impl Association {
             messages: Listed::empty(self.alloc),
             octets: Listed::from_inner(octets),
             close: false,
+            end: None,
         })
     }
 
     /// Takes PDVs, which are the messages of an open association or close it.
-    #[tactic(auto, using(crate::proofs::ShortPdus::abort_is_writable))]
     fn take_pdvs(
         &mut self,
         agreement: Agreement,
@@ -418,9 +378,8 @@ impl Association {
         let read = read_pdvs(self.alloc, &mut assembler, pdvs)?;
         if read.is_faulty {
             self.hold(Held::Closed(Some(agreement)));
-            // AA-8
-            let invalid = Pdu::Abort(BY_PROVIDER, INVALID_PARAMETER);
-            return closing_step(self.alloc, read.messages, Some(invalid));
+            let end = AssociationEnd::provider_abort(INVALID_PARAMETER);
+            return closing_step(self.alloc, read.messages, Some(end));
         }
         self.hold(Held::Open(agreement, assembler));
         // DT-2
@@ -428,32 +387,8 @@ impl Association {
             messages: read.messages,
             octets: Listed::empty(self.alloc),
             close: false,
+            end: None,
         })
-    }
-
-    /// Takes a PDU, by what it is to an association.
-    fn take_role(&mut self, role: &Role) -> Result<Step, AllocError>
-        requires { TakesRole (held_state self.old) role.now }
-        ensures step { (association : Pure) → Stands self.old association →
-            IfOk result (λ step. IsStep (accepted_in (held_agreement self.old)) step
-            (step_of_inputs (state_of association) (inputs_by association (role.now ∷ []) None))) }
-        ensures close { IfOk result (λ step. step.close ≡ is_closed (held_state self.new)) }
-        ensures exact { (association : Pure) → Stands self.old association →
-            OnOk result (Stands self.new (association_by association (role.now ∷ []))) }
-        ensures agreement { OnOk result (held_agreement self.new ≡ held_agreement self.old) }
-    {
-        let messages = Listed::empty(self.alloc);
-        match mem::replace(&mut self.held, Held::Closed(None)) {
-            Held::Closed(_) => unreachable!(),
-            Held::Waiting => closing_step(self.alloc, messages, misplaced_answer(role)),
-            Held::Open(agreement, assembler) => match role {
-                Role::Carries(pdvs) => self.take_pdvs(agreement, assembler, pdvs.as_slice()),
-                _ => {
-                    self.hold(Held::Closed(Some(agreement)));
-                    closing_step(self.alloc, messages, closing_answer(role))
-                }
-            },
-        }
     }
 
     /// Takes a PDU after the request, or one that stands in its place. After an error the
@@ -469,7 +404,21 @@ impl Association {
             OnOk result (Stands self.new (association_from association (pdu ∷ []))) }
         ensures agreement { OnOk result (held_agreement self.new ≡ held_agreement self.old) }
     {
-        self.take_role(&pdu.into_role())
+        let messages = Listed::empty(self.alloc);
+        match mem::replace(&mut self.held, Held::Closed(None)) {
+            Held::Closed(_) => unreachable!(),
+            Held::Waiting => {
+                let end = AssociationEnd::before_request(&pdu);
+                closing_step(self.alloc, messages, Some(end))
+            }
+            Held::Open(agreement, assembler) => match &pdu {
+                Pdu::PData(pdvs) => self.take_pdvs(agreement, assembler, pdvs.as_slice()),
+                _ => {
+                    self.hold(Held::Closed(Some(agreement)));
+                    closing_step(self.alloc, messages, Some(AssociationEnd::by_pdu(&pdu)))
+                }
+            },
+        }
     }
 
     /// Takes PDUs in order after the request, up to one that closes, and then a fault of the
@@ -513,6 +462,7 @@ impl Association {
                 messages: Listed::from_inner(messages),
                 octets: Listed::empty(self.alloc),
                 close: false,
+                end: None,
             }),
             Some(fault) => after_messages(messages, self.stop(fault)?),
         }
@@ -528,9 +478,9 @@ impl Association {
         ensures state { held_state self.new ≡ State.Closed }
         ensures agreement { held_agreement self.new ≡ held_agreement self.old }
     {
-        let answer = fault_answer(self.state(), fault);
+        let end = fault_end(self.state(), fault);
         let held = mem::replace(&mut self.held, Held::Closed(None));
         self.hold(Held::Closed(held.into_agreement()));
-        closing_step(self.alloc, Listed::empty(self.alloc), answer)
+        closing_step(self.alloc, Listed::empty(self.alloc), end)
     }
 }

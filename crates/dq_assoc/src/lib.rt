@@ -3,11 +3,13 @@
 
 mod agreement;
 mod association;
+mod association_end;
 mod classes;
 pub mod laws;
 mod negotiation;
 
 pub use agreement::{AcceptedContext, Agreement, PeerLimit};
 pub use association::{Association, State, Step, Verdict};
+pub use association_end::{AssociationEnd, Party};
 pub use classes::{Service, SopClass};
-pub use negotiation::{ContextRefusal, context_result, is_accepted};
+pub use negotiation::{ContextRefusal, Rejection, context_result, is_accepted};

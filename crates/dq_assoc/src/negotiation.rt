@@ -1,7 +1,6 @@
 //! The answer to an association request (PS3.8 sections 7.1.1 and 9.3.2 to 9.3.4, PS3.7 annex D.3).
-ghost use Rattle.std.specs.Prelude.{◌≡◌, map, Some, None, IfOk, IfErr, MatchResult};
-ghost use Rattle.dq_pdu.specs.Writing.{IsWritable};
-ghost use Rattle.dq_assoc.specs.Negotiation.{syntax_uid, offers, preferred_syntax, context_result, is_accepted, answered_context, agreement_of, peer_limit, acceptance_of, is_dicom, rejection};
+ghost use Rattle.std.specs.Prelude.{◌≡◌, map, Some, None, IfOk, MatchResult};
+ghost use Rattle.dq_assoc.specs.Negotiation.{syntax_uid, offers, preferred_syntax, context_result, is_accepted, answered_context, agreement_of, peer_limit, acceptance_of, is_dicom, rejection, rejection_numbers};
 
 use crate::agreement::{AcceptedContext, Agreement, PeerLimit};
 use crate::association::Verdict;
@@ -185,33 +184,63 @@ const PROTOCOL_VERSION_NOT_SUPPORTED: u8 = 0x02;
 
 const LOCAL_LIMIT_EXCEEDED: u8 = 0x02;
 
+/// The reason why a request is rejected (PS3.8 section 9.3.4).
+#[derive(Clone, Copy, Debug, PartialEq, Eq)]
+pub enum Rejection {
+    /// It asks for another version of the protocol.
+    ProtocolVersion,
+    /// Its application context is not that of DICOM.
+    ApplicationContext,
+    /// Its maximum length leaves no room for data (PS3.8 annex D.1).
+    MaximumLength,
+    /// Its titles name no institution.
+    Titles,
+    /// The institution has as many associations as it may have.
+    Associations,
+}
+
+impl Rejection {
+    /// Returns the result, the source and the reason. Unknown titles have those of a maximum length
+    /// without room: nobody is told which title is unknown, and PS3.8 has no reason for such a length.
+    pub fn numbers(self) -> (u8, u8, u8)
+        ensures { result ≡ rejection_numbers self }
+    {
+        match self {
+            Rejection::ProtocolVersion => {
+                (
+                    PERMANENT,
+                    ASSOCIATION_PROVIDER,
+                    PROTOCOL_VERSION_NOT_SUPPORTED,
+                )
+            }
+            Rejection::ApplicationContext => {
+                (PERMANENT, SERVICE_USER, APPLICATION_CONTEXT_NOT_SUPPORTED)
+            }
+            Rejection::MaximumLength | Rejection::Titles => (PERMANENT, SERVICE_USER, NO_REASON),
+            Rejection::Associations => (TRANSIENT, PRESENTATION_PROVIDER, LOCAL_LIMIT_EXCEEDED),
+        }
+    }
+}
+
 /// The rejection of a request, or the peer's limit where there is none: its version, its
 /// application context, its maximum length and then its titles are looked at (PS3.8 section 9.3.4).
-#[tactic(auto, using(crate::proofs::ShortPdus::reject_is_writable))]
-pub(crate) fn peer_limit(request: &Request, verdict: Verdict) -> Result<PeerLimit, Pdu>
-    ensures fits { IfErr result IsWritable }
-    ensures answer { MatchResult result
+pub(crate) fn peer_limit(request: &Request, verdict: Verdict) -> Result<PeerLimit, Rejection>
+    ensures { MatchResult result
         (λ limit. (rejection request.now verdict ≡ None) × (limit ≡ peer_limit request.now))
-        (λ rejected. rejection request.now verdict ≡ Some rejected) }
+        (λ why. rejection request.now verdict ≡ Some why) }
 {
     if request.version % 2 == 0 {
-        let reason = PROTOCOL_VERSION_NOT_SUPPORTED;
-        return Err(Pdu::Reject(PERMANENT, ASSOCIATION_PROVIDER, reason));
+        return Err(Rejection::ProtocolVersion);
     }
     if !is_dicom(&request.application_context) {
-        let reason = APPLICATION_CONTEXT_NOT_SUPPORTED;
-        return Err(Pdu::Reject(PERMANENT, SERVICE_USER, reason));
+        return Err(Rejection::ApplicationContext);
     }
-    let unknown = Pdu::Reject(PERMANENT, SERVICE_USER, NO_REASON);
     let Some(limit) = PeerLimit::of(request.maximum_length) else {
-        return Err(unknown);
+        return Err(Rejection::MaximumLength);
     };
     match verdict {
         Verdict::Accept => Ok(limit),
-        Verdict::Nowhere => Err(unknown),
-        Verdict::Busy => {
-            let reason = LOCAL_LIMIT_EXCEEDED;
-            Err(Pdu::Reject(TRANSIENT, PRESENTATION_PROVIDER, reason))
-        }
+        Verdict::Nowhere => Err(Rejection::Titles),
+        Verdict::Busy => Err(Rejection::Associations),
     }
 }

@@ -44,10 +44,12 @@ limiting_app = with_rule
 -- with those of the web front
 abbrev pub web_app : App
 web_app = with_rule
-    (with_rule (with_rule (with_rule (with_rule limiting_app (value_rule (codes "web")))
+    (with_rule (with_rule (with_rule (with_rule (with_rule (with_rule limiting_app (value_rule (codes "web")))
     (value_rule (codes "web-keys")))
     (value_rule (codes "web-listen")))
     (value_rule (codes "web-host")))
+    (value_rule (codes "web-origin")))
+    (value_rule (codes "web-proxy")))
     (value_rule (codes "web-peer-connections"))
 
 abbrev pub serve_app : App

@@ -1,6 +1,8 @@
 -- The command that the words of a command line ask for.
-use Rattle.std.specs.Prelude.{ℕ, Bool, ◌^◌, ◌&&◌, nat_lt, if◌then◌else◌, List, [], ◌∷◌, length, map, codes}
-use Rattle.std.specs.Prelude.{Option, Some, None, option_map, option_and_then, unwrap_or}
+use Rattle.std.specs.Prelude.{ℕ, ◌==◌, Bool, ◌^◌, ◌&&◌, ◌||◌, not, nat_lt, if◌then◌else◌, List, [], ◌∷◌, length, map, drop, codes}
+use Rattle.std.specs.Prelude.{Option, Some, None, is_some, option_map, option_and_then, unwrap_or}
+use Rattle.std.specs.Char.{is_ascii_digit, is_ascii_lowercase}
+use Rattle.std.specs.List.{list_all, starts_with, before_first, after_first}
 use Rattle.std.specs.Option.{option_copied}
 use Rattle.std.specs.Str.{all_ascii_digits, bytes_eq}
 use Rattle.std.specs.Str.Parse.{digits_value}
@@ -42,11 +44,14 @@ pub record Request : Type 0 where
   pub place : RowsPlace
 
 -- Where requests of the web front come in: a port of an address; the host that a proxy before it is
--- called by, if one is named; the file of its keys; and how many connections may come of one address, 0 any number.
+-- called by, the origin of a viewer whose pages may read, and the address of that proxy, if they are named; the file
+-- of its keys; and how many connections may come of one address, 0 any number.
 pub record WebFront : Type 0 where
   pub port : ℕ
   pub address : List ℕ
   pub host : Option (List ℕ)
+  pub origin : Option (List ℕ)
+  pub proxy : Option (List ℕ)
   pub keys : List ℕ
   pub peer_connections : ℕ
 
@@ -170,29 +175,71 @@ subcommand_request subcommand = option_map (λ place. record {
   place = place;
 }) (place_named subcommand)
 
+-- a name of hosts or an IPv4 address, as browsers write it: small letters, digits, points and hyphens
+abbrev pub is_of_host : ℕ → Bool
+is_of_host octet = is_ascii_lowercase octet || (is_ascii_digit octet || (octet == 45 || octet == 46))
+
+abbrev pub is_host : List ℕ → Bool
+is_host text = not (length text == 0) && list_all is_of_host text
+
+abbrev pub is_colon : ℕ → Bool
+is_colon octet = octet == 58
+
+abbrev pub before_colon : List ℕ → List ℕ
+before_colon text = before_first is_colon text
+
+abbrev pub after_colon : List ℕ → List ℕ
+after_colon text = after_first is_colon text
+
+-- a host alone, or one with a port behind a colon
+abbrev pub is_host_and_port : List ℕ → Bool
+is_host_and_port text = is_host (before_colon text)
+    && (length (before_colon text) == length text || is_some (port_told (after_colon text)))
+
+-- behind a scheme
+abbrev pub is_behind : List ℕ → List ℕ → Bool
+is_behind scheme text =
+    starts_with ◌==◌ text scheme && is_host_and_port (drop (length scheme) text)
+
+-- an origin, as browsers write it (RFC 6454 section 6.2)
+abbrev pub is_origin : List ℕ → Bool
+is_origin text = is_behind (codes "http://") text || is_behind (codes "https://") text
+
+abbrev pub origin_told : List ℕ → Option (List ℕ)
+origin_told text = if is_origin text then Some text else None
+
+abbrev pub origin_named : Option (Text × List Row) → Option (Option (List ℕ))
+origin_named subcommand = told_if_given origin_told (value_in (codes "web-origin") subcommand)
+
 -- The web front that the options name: its port and its keys, or neither, and then no more of it. None
 -- where they go not together, or the port is none.
 abbrev pub web_by_options : Option (List ℕ) → Option (List ℕ) → Option (List ℕ) → Option (List ℕ)
-    → Option ℕ → Option (Option WebFront)
-web_by_options (Some port) (Some keys) address host peers = option_map (λ number. Some (record {
+    → Option (List ℕ) → Option (List ℕ) → Option ℕ → Option (Option WebFront)
+web_by_options (Some port) (Some keys) address host origin proxy peers = option_map (λ number. Some (record {
   port = number;
   address = unwrap_or address loopback_address;
   host = host;
+  origin = origin;
+  proxy = proxy;
   keys = keys;
   peer_connections = unwrap_or peers web_peer_limit;
 })) (port_told port)
-web_by_options (Some port) None address host peers = None
-web_by_options None (Some keys) address host peers = None
-web_by_options None None None None None = Some None
-web_by_options None None (Some address) host peers = None
-web_by_options None None None (Some host) peers = None
-web_by_options None None None None (Some peers) = None
+web_by_options (Some port) None address host origin proxy peers = None
+web_by_options None (Some keys) address host origin proxy peers = None
+web_by_options None None None None None None None = Some None
+web_by_options None None (Some address) host origin proxy peers = None
+web_by_options None None None (Some host) origin proxy peers = None
+web_by_options None None None None (Some origin) proxy peers = None
+web_by_options None None None None None (Some proxy) peers = None
+web_by_options None None None None None None (Some peers) = None
 
 abbrev pub web_named : Option (Text × List Row) → Option (Option WebFront)
-web_named subcommand = option_and_then (web_by_options (value_in (codes "web") subcommand)
-    (value_in (codes "web-keys") subcommand) (value_in (codes "web-listen") subcommand)
-    (value_in (codes "web-host") subcommand))
-    (told_if_given number_told (value_in (codes "web-peer-connections") subcommand))
+web_named subcommand = option_and_then (λ origin. option_and_then
+    (web_by_options (value_in (codes "web") subcommand) (value_in (codes "web-keys") subcommand)
+    (value_in (codes "web-listen") subcommand) (value_in (codes "web-host") subcommand) origin
+    (value_in (codes "web-proxy") subcommand))
+    (told_if_given number_told (value_in (codes "web-peer-connections") subcommand)))
+    (origin_named subcommand)
 
 -- The file by which clients come in that are no associations: the path of the console, or the keys of the
 -- web front.
@@ -312,6 +359,8 @@ web_front_in web = record {
   port = web.port;
   address = web.address.now;
   host = option_copied web.host;
+  origin = option_copied web.origin;
+  proxy = option_copied web.proxy;
   keys = web.keys.now;
   peer_connections = web.peer_connections;
 }

@@ -162,13 +162,27 @@ fn web_command<'a>(alloc: Global) -> Result<Command<'a>, AllocError>
         "The host that a proxy before it is called by",
     );
     let hosted = listening.arg(host)?;
+    let origin = value_option(
+        alloc,
+        "web-origin",
+        "ORIGIN",
+        "The origin of a viewer whose pages may search too, as https://viewer.example [default: none]",
+    );
+    let opened = hosted.arg(origin)?;
+    let proxy = value_option(
+        alloc,
+        "web-proxy",
+        "ADDRESS",
+        "The address of a proxy before it, which says where requests came from [default: none]",
+    );
+    let proxied = opened.arg(proxy)?;
     let peers = value_option(
         alloc,
         "web-peer-connections",
         "N",
         "Closes a connection to it at once when N of its address are there; 0 is no limit [default: 16]",
     );
-    let fronted = hosted.arg(peers)?;
+    let fronted = proxied.arg(peers)?;
     Ok(fronted)
 }
 

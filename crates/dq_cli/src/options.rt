@@ -1,9 +1,10 @@
 //! The requests in the options of a subcommand, and the errors of those that are not taken.
-ghost use Rattle.std.specs.Prelude.{◌≡◌, map, option_map, option_and_then, codes, IfOk};
+ghost use Rattle.std.specs.Prelude.{◌≡◌, ◌==◌, true, false, map, length, drop, option_map, option_and_then, codes, IfOk, MatchOption};
+ghost use Rattle.std.specs.List.{list_all, starts_with};
 ghost use Rattle.std.specs.Option.{option_copied};
 ghost use Rattle.std.specs.Result.{result_ok};
 ghost use Rattle.clap.specs.Words.{subcommand_rows_of};
-ghost use Rattle.dq_cli.specs.CommandLine.{place_named, place_asked, port_told, number_told, seconds_told, told_if_given, web_named, web_front_in, request_asked, subcommand_request, serving_in, serving_of, migration_in, migration_of, checking_in, checking_of, duplicating_in, duplicating_of, kind_told, exporting_in, exporting_of, command_in, command_of};
+ghost use Rattle.dq_cli.specs.CommandLine.{place_named, place_asked, port_told, number_told, seconds_told, told_if_given, is_of_host, is_host, before_colon, after_colon, is_host_and_port, is_behind, origin_told, origin_named, web_named, web_front_in, request_asked, subcommand_request, serving_in, serving_of, migration_in, migration_of, checking_in, checking_of, duplicating_in, duplicating_of, kind_told, exporting_in, exporting_of, command_in, command_of};
 ghost use Rattle.dq_cli.specs.Clap.{value_in, values_in, is_given, is_subcommand};
 
 use crate::parsed_command::{
@@ -46,6 +47,8 @@ pub(crate) enum Misuse {
     NoConfig,
     /// The port of the web front is none, or only one of its port and its keys is named.
     NoWeb,
+    /// The origin of the viewer is none.
+    NoOrigin,
     /// The number of connections of one address to the web front is none.
     NoWebPeers,
     /// The store or the institution of an export is not named.
@@ -201,6 +204,97 @@ fn quiet_in(matches: &ArgMatches) -> Result<Option<u32>, Misuse>
     }
 }
 
+fn is_of_host(octet: u8) -> bool
+    ensures { result ≡ is_of_host octet }
+{
+    octet.is_ascii_lowercase() || octet.is_ascii_digit() || octet == b'-' || octet == b'.'
+}
+
+fn are_of_host(octets: &[u8]) -> bool
+    ensures { result ≡ list_all is_of_host octets.now }
+{
+    octets.iter().all(|octet| is_of_host(*octet))
+}
+
+/// Whether a text is a name of hosts or an IPv4 address, as browsers write it.
+fn is_host(text: &str) -> bool
+    ensures { result ≡ is_host text.now }
+{
+    !text.is_empty() && are_of_host(text.as_bytes())
+}
+
+/// Returns what stands before the first colon of a text, or all of it.
+fn before_colon(text: &str) -> &str
+    ensures { result.now ≡ before_colon text.now }
+{
+    match text.split_once(':') {
+        Some((front, _)) => front,
+        None => text,
+    }
+}
+
+/// Returns what stands after the first colon of a text, or nothing.
+fn after_colon(text: &str) -> &str
+    ensures { result.now ≡ after_colon text.now }
+{
+    match text.split_once(':') {
+        Some((_, rest)) => rest,
+        None => "",
+    }
+}
+
+/// Whether a text is a host, with or without a port.
+fn is_host_and_port(text: &str) -> bool
+    ensures { result ≡ is_host_and_port text.now }
+{
+    let host = before_colon(text);
+    is_host(host) && (host.len() == text.len() || port_told(after_colon(text)).is_some())
+}
+
+/// Returns the rest of a text behind a word at its front.
+fn behind<'a>(text: &'a str, word: &str) -> Option<&'a str>
+    ensures { MatchOption result (starts_with ◌==◌ text.now word.now ≡ false)
+        (λ rest. (starts_with ◌==◌ text.now word.now ≡ true)
+        × (rest.now ≡ drop (length word.now) text.now)) }
+{
+    text.strip_prefix(word)
+}
+
+/// Whether a text is a scheme, and a host behind it.
+fn is_behind(scheme: &str, text: &str) -> bool
+    ensures { result ≡ is_behind scheme.now text.now }
+{
+    match behind(text, scheme) {
+        Some(rest) => is_host_and_port(rest),
+        None => false,
+    }
+}
+
+/// The origin that a text tells, as browsers write it (RFC 6454 section 6.2).
+fn origin_told(text: &str) -> Option<&str>
+    ensures { option_copied result ≡ origin_told text.now }
+{
+    if is_behind("http://", text) || is_behind("https://", text) {
+        Some(text)
+    } else {
+        None
+    }
+}
+
+/// The origin of the viewer that an option names, if it is there.
+fn origin_in<'a>(matches: &ArgMatches<'a>) -> Result<Option<&'a str>, Misuse>
+    ensures { option_map option_copied (result_ok result)
+        ≡ origin_named (subcommand_rows_of matches.now) }
+{
+    match value_in(matches, "web-origin") {
+        None => Ok(None),
+        Some(text) => match origin_told(text) {
+            Some(origin) => Ok(Some(origin)),
+            None => Err(Misuse::NoOrigin),
+        },
+    }
+}
+
 /// The web front that the options name.
 fn web_in<'a>(matches: &ArgMatches<'a>) -> Result<Option<Web<'a>>, Misuse>
     ensures { option_map (option_map web_front_in) (result_ok result)
@@ -208,6 +302,8 @@ fn web_in<'a>(matches: &ArgMatches<'a>) -> Result<Option<Web<'a>>, Misuse>
 {
     let address = value_in(matches, "web-listen");
     let host = value_in(matches, "web-host");
+    let origin = origin_in(matches)?;
+    let proxy = value_in(matches, "web-proxy");
     let peers = number_in(matches, "web-peer-connections", Misuse::NoWebPeers)?;
     match (value_in(matches, "web"), value_in(matches, "web-keys")) {
         (Some(text), Some(keys)) => match port_told(text) {
@@ -215,13 +311,15 @@ fn web_in<'a>(matches: &ArgMatches<'a>) -> Result<Option<Web<'a>>, Misuse>
                 port,
                 address: address.unwrap_or(LOOPBACK_ADDRESS),
                 host,
+                origin,
+                proxy,
                 keys,
                 peer_connections: peers.unwrap_or(WEB_PEERS),
             })),
             None => Err(Misuse::NoWeb),
         },
-        (None, None) => match (address, host, peers) {
-            (None, None, None) => Ok(None),
+        (None, None) => match (address, host, origin, proxy, peers) {
+            (None, None, None, None, None) => Ok(None),
             _ => Err(Misuse::NoWeb),
         },
         _ => Err(Misuse::NoWeb),
@@ -403,6 +501,10 @@ pub(crate) fn reproach(misuse: Misuse) -> (ErrorKind, &'static str) {
         Misuse::NoWeb => (
             ErrorKind::ValueValidation,
             "the arguments '--web <PORT>', from 1 to 65535, and '--web-keys <FILE>' go together",
+        ),
+        Misuse::NoOrigin => (
+            ErrorKind::ValueValidation,
+            "the argument '--web-origin <ORIGIN>' takes http:// or https://, and a host in small letters with or without a port",
         ),
         Misuse::NoWebPeers => (
             ErrorKind::ValueValidation,

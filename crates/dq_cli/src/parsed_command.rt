@@ -30,13 +30,15 @@ pub struct CaptureCommand<'a> {
 }
 
 /// Where requests of the web front come in: a port of an address; the host that a proxy before it is
-/// called by, if one is named; the file of its keys; and how many connections may come of one address, 0
-/// any number.
+/// called by, the origin of a viewer whose pages may read, and the address of that proxy, if they are
+/// named; the file of its keys; and how many connections may come of one address, 0 any number.
 #[derive(Clone, Copy)]
 pub struct Web<'a> {
     pub port: u16,
     pub address: &'a str,
     pub host: Option<&'a str>,
+    pub origin: Option<&'a str>,
+    pub proxy: Option<&'a str>,
     pub keys: &'a str,
     pub peer_connections: u32,
 }

@@ -4,3 +4,4 @@ pub mod LineEnds
 pub mod Listed
 pub mod Outcomes
 pub mod Visiting
+pub mod Rereading

@@ -1,5 +1,5 @@
 -- What is asked of the console, as parts of a service that goes on.
-use Rattle.std.proofs.Common.{◌≡◌, ℕ, List, [], ◌∷◌, ◌++◌, inl, inr, refl, subst, ◌∙◌, ap₂, append_assoc, Option, Some, None, Bool, string_bytes}
+use Rattle.std.proofs.Common.{◌≡◌, ℕ, List, [], ◌∷◌, ◌++◌, inl, inr, refl, subst, ◌∙◌, ap₂, append_assoc, Option, Some, None, Result, Bool, string_bytes}
 use Rattle.std.proofs.lemmas.List.{append-nil}
 use Rattle.std.specs.List.{flat_map}
 use Rattle.dq_config.specs.declared.config.Institution.{Institution}
@@ -25,10 +25,11 @@ use Rattle.dq_wires.specs.Turners.{TurnerView, IsOrder}
 use Rattle.dq_request.specs.declared.request.Request.{Request}
 use Rattle.dq_request.specs.declared.request.Request.TheVariants as request
 use Rattle.dq_request.specs.declared.response.Response.{Response}
+use Rattle.dq_console.specs.declared.asks.KeysError.{KeysError}
 use Rattle.dq_console.specs.declared.console_line.ConsoleLine.{ConsoleLine}
 use Rattle.dq_console.specs.declared.console_line.ConsoleLine.TheVariants as line
 use Rattle.dq_console.specs.Console.{HeldClient, client_with_answer, rows_after, Answering, OrdersOnce, IsAnswer, TellsOf, IsUnanswered, IsLineUnanswered}
-use Rattle.dq_console.specs.Console.LineAnswer.{Obeyed, Refused, Unread}
+use Rattle.dq_console.specs.Console.LineAnswer.{Obeyed, Reread, Refused, Unread}
 use Rattle.dq_console.specs.RequestNotes.{is_bad}
 use Rattle.dq_console.specs.ServiceProgress.{AreHonest, WentOn, Attended, Holds, HoldsAt}
 use Rattle.dq_console.specs.ClientTurns.{Does, Halted, HaltedBy, Responds, RespondedBy, LineAnswered, LineUnanswered}
@@ -169,10 +170,10 @@ module _ {Tables : Type 0} (state : Tables → State) where
         look-responds (request.Backup path) answer (refl, (is.made, is.answer_is)) (λ honest. tt) is.looked
 
     -- what a line tells was done, and the client has its answer
-    pub does-line : (octets text : List ℕ) (client next : HeldClient) (is_over : Bool) → next ≡ client_with_answer client text is_over → (l : ConsoleLine)
-        → TellsLine octets l → is_over ≡ is_bad l → LineAnswered state copied names old.server new.server l text
-        → Does state names old new octets client next
-    does-line octets text client next is_over put (line.Asked asked) tells bad is =
+    pub does-line : (rereads : Result (Unit {0}) KeysError → Type 0) (octets text : List ℕ) (client next : HeldClient) (is_over : Bool) → next ≡ client_with_answer client text is_over → (l : ConsoleLine)
+        → TellsLine octets l → is_over ≡ is_bad l → LineAnswered state copied names rereads old.server new.server l text
+        → Does state names old new octets client next rereads
+    does-line rereads octets text client next is_over put (line.Asked asked) tells bad is =
         let answered = responds asked is.0 is.1 in
         record {
           answer = Obeyed (record { asked = asked; answer = is.0; acts = answered.stepped });
@@ -180,20 +181,31 @@ module _ {Tables : Type 0} (state : Tables → State) where
           acts = answered.acts;
           leaves = put ∙ ap₂ (λ (t : List ℕ) (b : Bool). client_with_answer client t b) is.2 bad;
           tells = answered.tells;
+          reread = tt;
         }
-    does-line octets text client next is_over put (line.Misspelled word) tells bad is = record {
+    does-line rereads octets text client next is_over put line.Keys tells bad is = record {
+      answer = Reread is.1.0;
+      is = tells;
+      acts = went-by-nothing hold fault is.0;
+      leaves = put ∙ ap₂ (λ (t : List ℕ) (b : Bool). client_with_answer client t b) is.1.2 bad;
+      tells = λ now honest rows start first done s. tt;
+      reread = is.1.1;
+    }
+    does-line rereads octets text client next is_over put (line.Misspelled word) tells bad is = record {
       answer = Refused (string_bytes word);
       is = tells;
       acts = went-by-nothing hold fault is.0;
       leaves = put ∙ ap₂ (λ (t : List ℕ) (b : Bool). client_with_answer client t b) is.1 bad;
       tells = λ now honest rows start first done s. tt;
+      reread = tt;
     }
-    does-line octets text client next is_over put line.Bad tells bad is = record {
+    does-line rereads octets text client next is_over put line.Bad tells bad is = record {
       answer = Unread;
       is = tells;
       acts = went-by-nothing hold fault is.0;
       leaves = put ∙ ap₂ (λ (t : List ℕ) (b : Bool). client_with_answer client t b) is.1 bad;
       tells = λ now honest rows start first done s. tt;
+      reread = tt;
     }
 
   -- a turner as it was, but for its server
@@ -230,6 +242,16 @@ module _ {Tables : Type 0} (state : Tables → State) where
     acts = λ log. went-nowhere log it;
     tells = λ now honest rows start first done s. tt;
     front = is;
+  }
+
+  pub responded-as : {IsFront IsMore : Option Answering → Type 0} (names : List (List ℕ)) (old new : TurnerView Tables)
+      → ((asked : Option Answering) → IsFront asked → IsMore asked) → RespondedBy state names old new IsFront → RespondedBy state names old new IsMore
+  responded-as names old new more responded = record {
+    asked = responded.asked;
+    are = responded.are;
+    acts = responded.acts;
+    tells = responded.tells;
+    front = more responded.asked responded.front;
   }
 
   pub one-responded : {IsFront : Option Answering → Type 0} (names : List (List ℕ)) (old new : TurnerView Tables) (asked : Request) (answer : Response)
@@ -291,4 +313,5 @@ module _ {Tables : Type 0} (state : Tables → State) where
         }
     line-halted octets (line.Misspelled word) tells same =
         record { order = None; is = tt; last = old; acts = λ log. went-nowhere log old; left = inl same }
+    line-halted octets line.Keys tells same = record { order = None; is = tt; last = old; acts = λ log. went-nowhere log old; left = inl same }
     line-halted octets line.Bad tells same = record { order = None; is = tt; last = old; acts = λ log. went-nowhere log old; left = inl same }

@@ -1,5 +1,5 @@
 -- The turns of clients of the console, one after the other.
-use Rattle.std.proofs.Common.{◌≡◌, ◌<◌, ◌+◌, ℕ, List, [], ◌∷◌, ◌++◌, length, map, get_or, set, remove, Bool, true, false, Option, Some, refl, sym, subst, ◌∙◌, ap, arith, append_assoc, length-append}
+use Rattle.std.proofs.Common.{◌≡◌, ◌<◌, ◌+◌, ℕ, List, [], ◌∷◌, ◌++◌, length, map, get_or, set, remove, Bool, true, false, Option, Some, Result, refl, sym, subst, ◌∙◌, ap, arith, append_assoc, length-append}
 use Rattle.std.specs.List.{flat_map}
 use Rattle.std.proofs.lemmas.List.{append-nil}
 use Rattle.dq_config.specs.declared.config.Institution.{Institution}
@@ -17,6 +17,7 @@ use Rattle.dq_console.specs.Console.{HeldClient, HasLine, first_line, without_li
 use Rattle.dq_console.specs.Console.Stopping.{AtLine, AtRequest}
 use Rattle.dq_console.specs.Console.ClientTurn.{Took, Forgotten}
 use Rattle.dq_console.specs.ClientTurns.{Writes, Quiet, Does, LetsIn, HaltedAt, HaltedAtFront, ClientTurnMade, Visited, AllVisited, SomeVisited, RespondedBy, Attends, Interrupted}
+use Rattle.dq_console.specs.declared.asks.KeysError.{KeysError}
 use Rattle.dq_console.specs.ServiceProgress.{Attended, Holds}
 use Rattle.dq_console.proofs.ServiceProgress.{went-nowhere, went-then, holds-later}
 
@@ -61,8 +62,9 @@ module _ {Tables : Type 0} (state : Tables → State) (names : List (List ℕ)) 
 
   -- a line was taken, and its answer offered
   pub client-turn-line : {before mid after : Option (List Call)} {old new : TurnerView Tables} {client taken put next : HeldClient} {line : List ℕ} {there : Bool}
+      {rereads : Result (Unit {0}) KeysError → Type 0}
       → TakesMore client → HasLine client.came → line ≡ first_line client.came → taken ≡ without_line client → mid ≡ before
-      → Does state names old new line taken put → Writes mid after put next there → ClientTurnMade state names before after old new client next there
+      → Does state names old new line taken put rereads → Writes mid after put next there → ClientTurnMade state names before after old new client next there
   client-turn-line {client = client} listening has is without same does writes =
       let became = does.leaves ∙ ap (λ (c : HeldClient). client_with_answer c (line_answer_text does.answer) (is_unread does.answer)) without in
       let sent = rw (became, same) at writes in

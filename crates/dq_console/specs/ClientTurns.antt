@@ -15,6 +15,7 @@ use Rattle.dq_wires.specs.ConnectionActions.{Shutting}
 use Rattle.dq_wires.specs.Logs.{Logs, LogsAll}
 use Rattle.dq_wires.specs.Servings.{Act}
 use Rattle.dq_wires.specs.Turners.{TurnerView}
+use Rattle.dq_console.specs.declared.asks.KeysError.{KeysError}
 use Rattle.dq_console.specs.declared.console_client.Next.{Next}
 use Rattle.dq_console.specs.declared.console_client.Next.TheVariants as next
 use Rattle.dq_console.specs.Console.{HeldClient, HasNone, HasLine, first_line, without_line, TakesMore, MayBring, with_octets, after_write, LineAnswer, IsLineAnswer, line_answer_text, answer_acts, is_unread, client_with_answer, ClientTurn, IsClientTurn, client_turn_calls, client_turn_acts, after_client_turn, Letting, IsLetting, letting_calls, with_let_in, Visit, client_of, clients_kept, visit_calls, visit_acts, IsShut, AreVisits, IsUnanswered, IsLineUnanswered, order_acts, Answering, IsAnswer, TellsOf, asked_acts, IsAnsweringIf, AskedTells, AttendingTells, Attending, IsAttending, attending_calls, attending_acts, after_attending, Interruption, IsInterruption, interruption_calls, interruption_acts, rows_after, TellsRows, ClientTurnTells, VisitsTell}
@@ -23,7 +24,8 @@ use Rattle.dq_request.specs.declared.response.Response.{Response}
 use Rattle.dq_core.specs.ServerView.{ServerView}
 use Rattle.dq_console.specs.declared.console_line.ConsoleLine.{ConsoleLine}
 use Rattle.dq_console.specs.declared.console_line.ConsoleLine.TheVariants as line
-use Rattle.dq_console.specs.ConsoleLines.{response_text, misspelled_text, bad_line}
+use Rattle.dq_console.specs.Console.LineAnswer.{Reread}
+use Rattle.dq_console.specs.ConsoleLines.{response_text, keys_text, misspelled_text, bad_line}
 use Rattle.dq_console.specs.Requests.{IsLeft, Answered, Unanswered}
 use Rattle.dq_console.specs.ServiceProgress.{Attended, Holds}
 
@@ -92,12 +94,31 @@ module _ {Tables : Type 0} (state : Tables → State) where
   abbrev pub HaltedAtFront : TurnerView Tables → TurnerView Tables → Type 0
   HaltedAtFront old new = (asked : Request) × HaltedBy old new asked
 
+-- ---- the web front's keys
+
+-- where a line has keys read anew, they are, with this outcome
+abbrev pub IsRereadFor : (Result (Unit {0}) KeysError → Type 0) → LineAnswer → Type 0
+IsRereadFor rereads (Reread outcome) = rereads outcome
+IsRereadFor rereads answer = Unit {0}
+
+-- Keys of a front are read anew with these outcomes, one after the other, and nothing else comes about.
+module _ {Front : Type 0} (rereads : Front → Front → Result (Unit {0}) KeysError → Type 0) where
+  abbrev pub AreReread : List (Result (Unit {0}) KeysError) → Front → Front → Type 0
+  AreReread [] old new = new ≡ old
+  AreReread (outcome ∷ outcomes) old new =
+      (mid : Front) × rereads old mid outcome × AreReread outcomes mid new
+
+  abbrev pub IsReread : Front → Front → Type 0
+  IsReread old new = (outcomes : List (Result (Unit {0}) KeysError)) × AreReread outcomes old new
+
 -- what is answered to a line, and what a fault leaves
 module _ {Tables : Type 0} (state : Tables → State) (copied : List Row → Type 0)
-    (names : List (List ℕ)) where
+    (names : List (List ℕ)) (rereads : Result (Unit {0}) KeysError → Type 0) where
   abbrev pub LineAnswered : ServerView Tables → ServerView Tables → ConsoleLine → List ℕ → Type 0
   LineAnswered old new (line.Asked asked) text = (answer : Response)
       × Answered state copied names old new asked answer × (text ≡ response_text answer)
+  LineAnswered old new line.Keys text = (new ≡ old)
+      × ((outcome : Result (Unit {0}) KeysError) × rereads outcome × (text ≡ keys_text outcome))
   LineAnswered old new (line.Misspelled word) text =
       (new ≡ old) × (text ≡ misspelled_text (string_bytes word))
   LineAnswered old new line.Bad text = (new ≡ old) × (text ≡ bad_line)
@@ -110,18 +131,21 @@ module _ {Tables : Type 0} (state : Tables → State) where
 -- over the names of the institutions
 module _ {Tables : Type 0} (state : Tables → State) (names : List (List ℕ)) where
   -- what a line tells was done, and the client has its answer
-  pub record Does (old new : TurnerView Tables) (line : List ℕ) (client next : HeldClient) : Type 0 where
+  pub record Does (old new : TurnerView Tables) (line : List ℕ) (client next : HeldClient)
+      (rereads : Result (Unit {0}) KeysError → Type 0) : Type 0 where
     pub answer : LineAnswer
     pub is : IsLineAnswer line answer
     pub acts : Attended state old new (answer_acts answer)
     pub leaves : next ≡ client_with_answer client (line_answer_text answer) (is_unread answer)
     pub tells : Holds state old (λ institutions rows done.
         TellsRows institutions names (rows_after institutions rows done) answer)
+    pub reread : IsRereadFor rereads answer
 
   -- the same; or there was no memory for the line, and nothing was done
-  abbrev pub DoesIf : TurnerView Tables → TurnerView Tables → List ℕ → HeldClient → HeldClient → Bool → Type 0
-  DoesIf old new line client next true = Does old new line client next
-  DoesIf old new line client next false = new ≡ old
+  abbrev pub DoesIf : TurnerView Tables → TurnerView Tables → List ℕ → HeldClient → HeldClient
+      → (Result (Unit {0}) KeysError → Type 0) → Bool → Type 0
+  DoesIf old new line client next rereads true = Does old new line client next rereads
+  DoesIf old new line client next rereads false = new ≡ old
 
   -- the turn of a client was made, but for its shut if it is gone
   pub record ClientTurnMade (before after : Option (List Call)) (old new : TurnerView Tables)
@@ -225,6 +249,12 @@ abbrev pub IsFrontServed : {Front : Type 0} → (Front → Option Request) → (
     → Front → Front → Option Answering → Type 0
 IsFrontServed waiting answers old new None = (waiting old ≡ None) × (new ≡ old)
 IsFrontServed waiting answers old new (Some it) = (waiting old ≡ Some it.asked) × answers old new it.answer
+
+-- The same, after its keys may have been read anew.
+abbrev pub HasFrontTurn : {Front : Type 0} → (Front → Option Request) → (Front → Front → Response → Type 0)
+    → (Front → Front → Result (Unit {0}) KeysError → Type 0) → Front → Front → Option Answering → Type 0
+HasFrontTurn {Front} waiting answers rereads old new asked =
+    (mid : Front) × IsReread rereads old mid × IsFrontServed waiting answers mid new asked
 
 -- a turn began
 pub record LetsIn (before after : Option (List Call)) (from to : List HeldClient) : Type 0 where

@@ -22,8 +22,9 @@ use Rattle.dq_request.specs.declared.request.Request.{Request}
 use Rattle.dq_request.specs.declared.request.Request.TheVariants as request
 use Rattle.dq_request.specs.declared.response.Response.{Response}
 use Rattle.dq_request.specs.declared.response.BackupError.{BackupError}
+use Rattle.dq_console.specs.declared.asks.KeysError.{KeysError}
 use Rattle.dq_console.specs.declared.console_line.ConsoleLine.TheVariants as line
-use Rattle.dq_console.specs.ConsoleLines.{SpellsRequest, IsMisspelled, TellsLine, response_text, misspelled_text, bad_line}
+use Rattle.dq_console.specs.ConsoleLines.{SpellsRequest, IsMisspelled, TellsLine, keys_line, response_text, keys_text, misspelled_text, bad_line}
 use Rattle.dq_console.specs.Requests.{search_response, counts_response, report_response, order_in, order_response, backup_response}
 
 -- A client: its place among the wires, the octets that came and are not taken, those of its answer
@@ -106,36 +107,43 @@ TellsOf institutions names rows (request.Counts name) answer = answer ≡ counts
 TellsOf institutions names rows request.Report answer = answer ≡ report_response names rows
 TellsOf institutions names rows other answer = Unit {0}
 
--- The outcome of a line: what it asks was answered, a word of it was refused, or it tells nothing.
+-- The outcome of a line: what it asks was answered, keys were read anew or why not, a word of it was refused, or it tells
+-- nothing.
 pub data LineAnswer : Type 0 where
   Obeyed : Answering → LineAnswer
+  Reread : Result (Unit {0}) KeysError → LineAnswer
   Refused : List ℕ → LineAnswer
   Unread : LineAnswer
 
 -- which lines it is for
 abbrev pub IsLineAnswer : List ℕ → LineAnswer → Type 0
 IsLineAnswer text (Obeyed it) = SpellsRequest text it.asked × IsAnswering it
+IsLineAnswer text (Reread outcome) = text ≡ keys_line
 IsLineAnswer text (Refused word) = IsMisspelled text word
 IsLineAnswer text Unread = TellsLine text line.Bad
 
 abbrev pub line_answer_text : LineAnswer → List ℕ
 line_answer_text (Obeyed it) = response_text it.answer
+line_answer_text (Reread outcome) = keys_text outcome
 line_answer_text (Refused word) = misspelled_text word
 line_answer_text Unread = bad_line
 
 abbrev pub answer_acts : LineAnswer → List Act
 answer_acts (Obeyed it) = it.acts
+answer_acts (Reread outcome) = []
 answer_acts (Refused word) = []
 answer_acts Unread = []
 
 abbrev pub is_unread : LineAnswer → Bool
 is_unread (Obeyed it) = false
+is_unread (Reread outcome) = false
 is_unread (Refused word) = false
 is_unread Unread = true
 
 -- The answer to a line is of the rows that are there.
 abbrev pub TellsRows : List Institution → List (List ℕ) → List Row → LineAnswer → Type 0
 TellsRows institutions names rows (Obeyed it) = TellsOf institutions names rows it.asked it.answer
+TellsRows institutions names rows (Reread outcome) = Unit {0}
 TellsRows institutions names rows (Refused word) = Unit {0}
 TellsRows institutions names rows Unread = Unit {0}
 

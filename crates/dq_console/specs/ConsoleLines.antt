@@ -1,5 +1,5 @@
 -- How the console spells what is asked and what is answered.
-use Rattle.std.specs.Prelude.{◌≡◌, ◌==◌, ◌+◌, ℕ, Bool, not, nat_eq, List, [], ◌∷◌, ◌++◌, length, take, drop, filter, codes, string_bytes}
+use Rattle.std.specs.Prelude.{◌≡◌, ◌==◌, ◌+◌, ℕ, Bool, not, nat_eq, List, [], ◌∷◌, ◌++◌, length, take, drop, filter, codes, string_bytes, Result, Ok, Err}
 use Rattle.std.specs.Fmt.{decimal}
 use Rattle.std.specs.List.{flat_map, slice_split, position_or_len}
 use Rattle.std.specs.Str.{IsUtf8}
@@ -24,8 +24,10 @@ use Rattle.dq_request.specs.declared.search.Subject.{Subject}
 use Rattle.dq_request.specs.declared.search.Subject.TheVariants.{Studies, Series, Images, Worklist, Steps}
 use Rattle.dq_request.specs.Responses.{cause_text}
 use Rattle.dq_request.specs.Searches.{TakesWords, StopsAt}
+use Rattle.dq_console.specs.declared.asks.KeysError.{KeysError}
+use Rattle.dq_console.specs.declared.asks.KeysError.TheVariants as keys_error
 use Rattle.dq_console.specs.declared.console_line.ConsoleLine.{ConsoleLine}
-use Rattle.dq_console.specs.declared.console_line.ConsoleLine.TheVariants.{Asked, Misspelled, Bad}
+use Rattle.dq_console.specs.declared.console_line.ConsoleLine.TheVariants.{Asked, Keys, Misspelled, Bad}
 
 -- ---- lines that are read
 
@@ -107,14 +109,20 @@ SpellsOrder line (Asked (request.Schedule institution octets)) =
 SpellsOrder line (Asked (request.Withdraw institution id)) =
     SpellsEvent line (event.Withdraw institution id)
 SpellsOrder line (Asked other) = ⊥
+SpellsOrder line Keys = ⊥
 SpellsOrder line (Misspelled word) = ⊥
 SpellsOrder line Bad = (order : Event) → SpellsEvent line order → IsOrder order → ⊥
 
--- The meaning of a line: what is asked; a search with a word that is none; or none of these.
+-- a line by which the web front's keys are to be read anew
+abbrev pub keys_line : List ℕ
+keys_line = codes "keys"
+
+-- The meaning of a line: what is asked; that keys are to be read anew; a search with a word that is none; or none of these.
 abbrev pub TellsLine : List ℕ → ConsoleLine → Type 0
 TellsLine line (Asked asked) = SpellsRequest line asked
+TellsLine line Keys = line ≡ keys_line
 TellsLine line (Misspelled word) = IsMisspelled line (string_bytes word)
-TellsLine line Bad = IsUtf8 line → (asked : Request) → SpellsRequest line asked → ⊥
+TellsLine line Bad = IsUtf8 line → ((asked : Request) → SpellsRequest line asked → ⊥) × (line ≡ keys_line → ⊥)
 
 -- ---- lines that are written
 
@@ -158,6 +166,17 @@ misspelled_text word = refused_text (codes "keyword " ++ word)
 -- a line that tells nothing
 abbrev pub bad_line : List ℕ
 bad_line = codes "bad line" ++ line_feed ∷ []
+
+-- why keys were not read anew
+abbrev pub keys_error_word : KeysError → List ℕ
+keys_error_word keys_error.NoFront = codes "no web front"
+keys_error_word keys_error.Failed = codes "failed"
+keys_error_word (keys_error.Line number) = codes "line " ++ decimal number
+keys_error_word keys_error.NoMemory = codes "memory"
+
+abbrev pub keys_text : Result (Unit {0}) KeysError → List ℕ
+keys_text (Ok read) = codes "done" ++ line_feed ∷ []
+keys_text (Err why) = refused_text (keys_error_word why)
 
 -- an answer
 abbrev pub response_text : Response → List ℕ

@@ -4,7 +4,7 @@ use Rattle.std.specs.Str.{IsUtf8}
 use Rattle.dq_request.specs.declared.request.Request.{Request}
 use Rattle.dq_request.specs.declared.request.Request.TheVariants.{Schedule, Withdraw, Backup}
 use Rattle.dq_console.specs.declared.console_line.ConsoleLine.{ConsoleLine}
-use Rattle.dq_console.specs.declared.console_line.ConsoleLine.TheVariants.{Asked, Misspelled, Bad}
+use Rattle.dq_console.specs.declared.console_line.ConsoleLine.TheVariants.{Asked, Keys, Misspelled, Bad}
 
 -- whether a line tells nothing
 abbrev pub is_bad : ConsoleLine → Bool
@@ -32,5 +32,6 @@ NotesRequest other note = note ≡ None
 -- of a line; of one that tells nothing only the answer
 abbrev pub NotesLine : ConsoleLine → Option (List ℕ) → Type 0
 NotesLine (Asked request) note = NotesRequest request note
+NotesLine Keys note = note ≡ Some (codes "keys ")
 NotesLine (Misspelled word) note = note ≡ None
 NotesLine Bad note = note ≡ Some []

@@ -3,9 +3,10 @@ ghost use Rattle.std.specs.Prelude.{List, OnOk};
 ghost use Rattle.dq_tables.specs.declared.row.Row.{Row};
 ghost use Rattle.dq_core.specs.Looking.{LeavesAlone};
 
+use dq_config::Config;
 use dq_core::TableInspection;
 use dq_request::BackupError;
-use dq_tables::Tables;
+use dq_tables::{TableFault, Tables};
 use std::alloc::Global;
 
 /// A maker of copies of all rows of tables.
@@ -45,9 +46,11 @@ impl<T: Tables, B: Backups<T>> TableInspection<T> for Copying<'_, B> {
 
     type Seen = Result<(), BackupError>;
 
-    ghost shows = { λ it rows seen. OnOk seen (B.copied it.backups.now rows) };
+    ghost shows = { λ it _ rows seen. OnOk seen (B.copied it.backups.now rows) };
 
-    fn look(&self, tables: &mut T) -> Result<(), BackupError> {
-        self.backups.backup(self.alloc, tables, self.path)
+    ghost may_fail = { λ _. ⊥ };
+
+    fn look(&self, _config: &Config, tables: &mut T) -> Result<Self::Seen, TableFault> {
+        Ok(self.backups.backup(self.alloc, tables, self.path))
     }
 }

@@ -3,12 +3,14 @@
 ghost use Rattle.std.specs.Prelude.{◌≡◌, [], option_map, string_bytes, IfOk, OnOk, OnErr};
 ghost use Rattle.dq_request.specs.declared.request.Request.{Request};
 ghost use Rattle.dq_console.specs.RequestNotes.{is_bad, IsNameNoted, NotesRequest, NotesLine};
-ghost use Rattle.dq_console.specs.ClientTurns.{DoesIf, Halted, HaltedAt, HaltedBy, ClientTurnMade, Visited, AllVisited, SomeVisited, LineAnswered, LineUnanswered, Responds, RespondedBy, HaltedAtFront, Attends, Interrupted, LetsIn, IsFrontServed};
+ghost use Rattle.dq_console.specs.ClientTurns.{DoesIf, Halted, HaltedAt, HaltedBy, ClientTurnMade, Visited, AllVisited, SomeVisited, LineAnswered, LineUnanswered, Responds, RespondedBy, HaltedAtFront, Attends, Interrupted, LetsIn, IsReread, IsFrontServed, HasFrontTurn};
 
 use crate::asks::Asks;
 use crate::backup::Backups;
 use crate::console_client::{ConsoleClient, Next};
-use crate::console_line::{BAD_LINE, ConsoleLine, line_in, misspelled_text, response_text};
+use crate::console_line::{
+    BAD_LINE, ConsoleLine, keys_text, line_in, misspelled_text, response_text,
+};
 use crate::requests::serve;
 use dq_core::Fault;
 use dq_list::Listed;
@@ -63,33 +65,9 @@ fn line_note(alloc: Global, line: &ConsoleLine) -> Result<Option<String>, AllocE
 {
     match line {
         ConsoleLine::Asked(request) => request_note(alloc, request),
+        ConsoleLine::Keys => Ok(Some(String::from_str(alloc, "keys ")?)),
         ConsoleLine::Misspelled(_) => Ok(None),
         ConsoleLine::Bad => Ok(Some(String::new(alloc))),
-    }
-}
-
-/// Returns the answer to a line, once what it asks is done.
-fn answer_to<T: Tables, B: Backups<T>>(
-    alloc: Global,
-    turner: &mut Turner<T>,
-    backups: &B,
-    names: &[Listed<u8>],
-    line: &ConsoleLine,
-) -> Result<Vec<u8>, Fault>
-    ensures answered { IfOk result (λ text. LineAnswered T.state (B.copied backups.now) names.now
-        turner.old.server turner.new.server line.now text.items) }
-    ensures hold { turner.new.hold ≡ turner.old.hold }
-    ensures fault { OnOk result (turner.new.fault ≡ turner.old.fault) }
-    ensures cut { OnErr result
-        (LineUnanswered T.state turner.old.server turner.new.server line.now) }
-{
-    match line {
-        ConsoleLine::Asked(request) => {
-            let response = serve(alloc, turner, backups, names, request)?;
-            Ok(response_text(alloc, &response)?)
-        }
-        ConsoleLine::Misspelled(word) => Ok(misspelled_text(alloc, word.as_str())?),
-        ConsoleLine::Bad => Ok(Vec::from_slice(alloc, BAD_LINE.as_bytes())?),
     }
 }
 
@@ -114,18 +92,51 @@ pub struct ConsoleHandler<W> {
 }
 
 impl<W: Wires + Drop> ConsoleHandler<W> {
+    /// Returns the answer to a line, once what it asks is done.
+    #[tactic(auto, using(crate::proofs::Rereading::reread_none, crate::proofs::Rereading::reread_one))]
+    fn answer_to<T: Tables, B: Backups<T>, F: Asks>(
+        &self,
+        turner: &mut Turner<T>,
+        backups: &B,
+        front: &mut F,
+        line: &ConsoleLine,
+    ) -> Result<Vec<u8>, Fault>
+        ensures answered { IfOk result (λ text. LineAnswered T.state (B.copied backups.now)
+            self.now.names.items (F.rereads front.old front.new) turner.old.server turner.new.server
+            line.now text.items) }
+        ensures hold { turner.new.hold ≡ turner.old.hold }
+        ensures fault { OnOk result (turner.new.fault ≡ turner.old.fault) }
+        ensures front { IsReread F.rereads front.old front.new }
+        ensures cut { OnErr result
+            (LineUnanswered T.state turner.old.server turner.new.server line.now) }
+    {
+        match line {
+            ConsoleLine::Asked(request) => {
+                let names = self.names.as_slice();
+                let response = serve(self.alloc, turner, backups, names, request)?;
+                Ok(response_text(self.alloc, &response)?)
+            }
+            ConsoleLine::Keys => Ok(keys_text(self.alloc, front.read_keys())?),
+            ConsoleLine::Misspelled(word) => Ok(misspelled_text(self.alloc, word.as_str())?),
+            ConsoleLine::Bad => Ok(Vec::from_slice(self.alloc, BAD_LINE.as_bytes())?),
+        }
+    }
+
     // Does what a line tells, and gives the client its answer. The first bad line is the last that
     // is taken of a client. Where there is no memory for the line, nothing is done: the answer is
     // whether there was.
-    fn obey<T: Tables, B: Backups<T>>(
+    #[tactic(auto, using(crate::proofs::Rereading::reread_none))]
+    fn obey<T: Tables, B: Backups<T>, F: Asks>(
         &mut self,
         client: &mut ConsoleClient,
         octets: &[u8],
         turner: &mut Turner<T>,
         backups: &B,
+        front: &mut F,
     ) -> Result<bool, Fault>
         ensures does { IfOk result (DoesIf T.state self.old.names.items turner.old turner.new
-            octets.now client.old client.new) }
+            octets.now client.old client.new (F.rereads front.old front.new)) }
+        ensures front { IsReread F.rereads front.old front.new }
         ensures wires { self.new.wires ≡ self.old.wires }
         ensures names { self.new.names.items ≡ self.old.names.items }
         ensures cut { OnErr result (Halted T.state turner.old turner.new octets.now) }
@@ -140,8 +151,7 @@ impl<W: Wires + Drop> ConsoleHandler<W> {
             return Ok(false);
         };
         let is_last = is_bad(&line);
-        let names = self.names.as_slice();
-        let answer = answer_to(self.alloc, turner, backups, names, &line)?;
+        let answer = self.answer_to(turner, backups, front, &line)?;
         let _ = keep_note(&mut self.notes, note, answer.as_slice());
         client.put(answer, is_last);
         Ok(true)
@@ -173,12 +183,15 @@ impl<W: Wires + Drop> ConsoleHandler<W> {
     }
 
     // The turn of a client, but for its shut. The answer is whether it is still there.
-    fn client_turn<T: Tables, B: Backups<T>>(
+    #[tactic(auto, using(crate::proofs::Rereading::reread_none))]
+    fn client_turn<T: Tables, B: Backups<T>, F: Asks>(
         &mut self,
         client: &mut ConsoleClient,
         turner: &mut Turner<T>,
         backups: &B,
+        front: &mut F,
     ) -> Result<bool, Fault>
+        ensures front { IsReread F.rereads front.old front.new }
         ensures went { IfOk result (ClientTurnMade T.state self.old.names.items (W.log self.old.wires)
             (W.log self.new.wires) turner.old turner.new client.old client.new) }
         ensures names { self.new.names.items ≡ self.old.names.items }
@@ -189,7 +202,7 @@ impl<W: Wires + Drop> ConsoleHandler<W> {
             Next::Held => Ok(true),
             Next::Left => Ok(false),
             Next::Line(octets) => {
-                if !self.obey(client, octets.as_slice(), turner, backups)? {
+                if !self.obey(client, octets.as_slice(), turner, backups, front)? {
                     return Ok(false);
                 }
                 Ok(client.send(&mut self.wires))
@@ -198,12 +211,14 @@ impl<W: Wires + Drop> ConsoleHandler<W> {
     }
 
     // The turn of a client, which is let go if it is gone.
-    fn visit<T: Tables, B: Backups<T>>(
+    fn visit<T: Tables, B: Backups<T>, F: Asks>(
         &mut self,
         client: &mut ConsoleClient,
         turner: &mut Turner<T>,
         backups: &B,
+        front: &mut F,
     ) -> Result<bool, Fault>
+        ensures front { IsReread F.rereads front.old front.new }
         ensures went { IfOk result (Visited T.state self.old.names.items (W.log self.old.wires)
             (W.log self.new.wires) turner.old turner.new client.old client.new) }
         ensures names { self.new.names.items ≡ self.old.names.items }
@@ -211,7 +226,7 @@ impl<W: Wires + Drop> ConsoleHandler<W> {
             (W.log self.new.wires) turner.old turner.new client.old) }
     {
         let place = client.place();
-        if self.client_turn(client, turner, backups)? {
+        if self.client_turn(client, turner, backups, front)? {
             return Ok(true);
         }
         let _ = self.wires.shut(place);
@@ -297,14 +312,18 @@ impl<W: Wires + Drop, F: Asks + Drop> Console<W, F> {
             (W.log self.old.handler.wires) (W.log self.new.handler.wires) turner.old turner.new
             self.old.clients.items self.new.clients.items) }
         ensures names { OnOk result (self.new.handler.names.items ≡ self.old.handler.names.items) }
-        ensures front { OnOk result (self.new.front ≡ self.old.front) }
+        ensures front { OnOk result (IsReread F.rereads self.old.front self.new.front) }
         ensures cut { OnErr result (SomeVisited T.state self.old.handler.names.items
             (W.log self.old.handler.wires) (W.log self.new.handler.wires) turner.old turner.new
             self.old.clients.items) }
     {
         let mut at = 0;
         while at < self.clients.len() {
-            if self.handler.visit(&mut self.clients[at], turner, backups)? {
+            let client = &mut self.clients[at];
+            if self
+                .handler
+                .visit(client, turner, backups, &mut self.front)?
+            {
                 at += 1;
             } else {
                 let _ = self.clients.remove(at);
@@ -340,7 +359,7 @@ impl<W: Wires + Drop, F: Asks + Drop> Console<W, F> {
     /// if one has come whole, or else is read. Then the request of the web front that waits is answered. Nothing is
     /// asked of other connections. What fails of
     /// a client, or of the wires, ends that client alone: only a fault of the server, or want of
-    /// memory for an answer, ends more. A search is answered by what the institution that it
+    /// memory for an answer, ends more. Where a line asks so, the web front's keys are read anew. A search is answered by what the institution that it
     /// names is shown of the rows as they are then, and counts are of these.
     pub fn turn<T: Tables, B: Backups<T>>(
         &mut self,
@@ -350,7 +369,7 @@ impl<W: Wires + Drop, F: Asks + Drop> Console<W, F> {
         ensures went { OnOk result (Attends T.state self.old.handler.names.items
             (W.log self.old.handler.wires) (W.log self.new.handler.wires) turner.old turner.new
             self.old.clients.items self.new.clients.items
-            (IsFrontServed F.waiting F.answers self.old.front self.new.front)) }
+            (HasFrontTurn F.waiting F.answers F.rereads self.old.front self.new.front)) }
         ensures names { OnOk result (self.new.handler.names.items ≡ self.old.handler.names.items) }
         ensures cut { OnErr result (Interrupted T.state self.old.handler.names.items
             (W.log self.old.handler.wires) (W.log self.new.handler.wires) turner.old turner.new

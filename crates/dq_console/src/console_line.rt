@@ -4,8 +4,9 @@ ghost use Rattle.std.specs.Fmt.{decimal};
 ghost use Rattle.dq_captures.specs.Reports.{kind_word};
 ghost use Rattle.dq_request.specs.Searches.{TakesWords, StopsAt};
 ghost use Rattle.dq_wires.specs.Turners.{IsOrder};
-ghost use Rattle.dq_console.specs.ConsoleLines.{subject_word, name_in, is_word, words_of, words_in, TellsLine, IsAskedBy, SpellsOrder, SpellsSearch, count_in, count_text, counted_line, counted_text, json_lines, answers_text, refused_text, misspelled_text, response_text};
+ghost use Rattle.dq_console.specs.ConsoleLines.{subject_word, name_in, is_word, words_of, words_in, TellsLine, IsAskedBy, SpellsOrder, SpellsSearch, count_in, count_text, counted_line, counted_text, json_lines, answers_text, refused_text, misspelled_text, keys_error_word, keys_text, response_text};
 
+use crate::asks::KeysError;
 use crate::counting::KINDS;
 use dq_captures::event_of;
 use dq_core::Event;
@@ -26,6 +27,8 @@ pub const BAD_LINE: &str = "bad line\n";
 #[derive(Drop)]
 pub enum ConsoleLine {
     Asked(Request),
+    /// The web front's keys are to be read anew.
+    Keys,
     /// A word of a search that is none.
     Misspelled(String),
     Bad,
@@ -182,6 +185,9 @@ fn backup_path(line: &str) -> Option<&str>
 fn line_of(alloc: Global, text: &str) -> Result<ConsoleLine, AllocError>
     ensures { IfOk result (TellsLine text.now) }
 {
+    if text == "keys" {
+        return Ok(ConsoleLine::Keys);
+    }
     if text == "report" {
         return Ok(ConsoleLine::Asked(Request::Report));
     }
@@ -301,6 +307,28 @@ pub fn misspelled_text(alloc: Global, word: &str) -> Result<Vec<u8>, AllocError>
     let mut why = String::from_str(alloc, "keyword ")?;
     why.push_str(word)?;
     refused_text(alloc, why.as_str())
+}
+
+/// The word for why keys were not read anew.
+fn keys_error_word(alloc: Global, error: KeysError) -> Result<String, AllocError>
+    ensures { IfOk result (λ word. string_bytes word ≡ keys_error_word error) }
+{
+    match error {
+        KeysError::NoFront => String::from_str(alloc, "no web front"),
+        KeysError::Failed => String::from_str(alloc, "failed"),
+        KeysError::Line(number) => format!(in alloc; "line {number}"),
+        KeysError::NoMemory => String::from_str(alloc, "memory"),
+    }
+}
+
+/// How it is told that keys were read anew, or why not.
+pub fn keys_text(alloc: Global, outcome: Result<(), KeysError>) -> Result<Vec<u8>, AllocError>
+    ensures { IfOk result (λ text. text.items ≡ keys_text outcome) }
+{
+    match outcome {
+        Ok(()) => Vec::from_slice(alloc, b"done\n"),
+        Err(error) => refused_text(alloc, keys_error_word(alloc, error)?.as_str()),
+    }
 }
 
 /// How an answer is told.

@@ -11,7 +11,7 @@ mod counting;
 mod requests;
 mod searching;
 
-pub use asks::Asks;
+pub use asks::{Asks, KeysError};
 pub use backup::{Backups, OfMemory};
 pub use console::{Console, ConsoleHandler};
 pub use console_client::ConsoleClient;

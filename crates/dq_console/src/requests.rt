@@ -9,7 +9,7 @@ use crate::backup::{Backups, Copying};
 use crate::counting::{Counting, all_counted, counted};
 use crate::searching::search;
 use dq_core::laws::looks_are_one_look;
-use dq_core::{Event, Fault, Reply};
+use dq_core::{Event, Fault, Reply, RowCount};
 use dq_list::Listed;
 use dq_request::{BackupError, Cause, Request, Response};
 use dq_tables::{Kind, Tables};
@@ -31,7 +31,7 @@ impl<T: Tables> Counting for Turner<T> {
         LooksInPart T.state old.server new.server × (new.hold ≡ old.hold) };
 
     fn count_rows(&mut self, kind: Kind, name: &[u8]) -> Result<u64, Fault> {
-        self.count(kind, name)
+        self.look(&RowCount { kind, name })
     }
 
     ghost leads_nowhere = { λ it. (looked-none it.server, refl, refl) };

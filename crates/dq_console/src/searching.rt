@@ -6,7 +6,7 @@ ghost use Rattle.dq_request.specs.Searches.{identifier_of};
 ghost use Rattle.dq_console.specs.Requests.{kind_of, is_steps, page_window, found_response, steps_response, search_response, LooksInPart};
 
 use dq_core::laws::looks_are_one_look;
-use dq_core::{Fault, SearchKind, ShownPage};
+use dq_core::{Fault, FoundPage, SearchKind, ShownPage, StepsPage};
 use dq_dataset::DataSet;
 use dq_dimse::status::SUCCESS;
 use dq_list::Listed;
@@ -81,7 +81,12 @@ fn search_by_keys<T: Tables>(
     looks_are_one_look::<T>();
     let keys = search.identifier(alloc)?;
     let name = search.institution.as_slice();
-    let found = turner.search(name, kind_of(search.subject), &keys, shown(search.page))?;
+    let found = turner.look(&FoundPage {
+        name,
+        kind: kind_of(search.subject),
+        keys: &keys,
+        page: shown(search.page),
+    })?;
     Ok(found_response(found))
 }
 
@@ -103,6 +108,9 @@ pub fn search<T: Tables>(
     if !is_steps(search.subject) {
         return search_by_keys(alloc, turner, search);
     }
-    let steps = turner.steps(search.institution.as_slice(), shown(search.page))?;
+    let steps = turner.look(&StepsPage {
+        name: search.institution.as_slice(),
+        page: shown(search.page),
+    })?;
     Ok(steps_response(steps))
 }

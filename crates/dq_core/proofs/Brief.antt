@@ -1,6 +1,6 @@
 -- Worklist entries and performed procedure steps, whose edits leave the studies, the series and the
 -- images as they were.
-use Rattle.std.proofs.Common.{◌≡◌, ℕ, Bool, true, false, not, List, [], ◌∷◌, ◌++◌, map, Option, Some, None, refl, sym, ap, ◌∙◌, append-nil, if◌then◌else◌}
+use Rattle.std.proofs.Common.{◌≡◌, ℕ, Bool, true, false, List, [], ◌∷◌, ◌++◌, map, Option, Some, None, refl, sym, ap, ◌∙◌, append-nil, if◌then◌else◌}
 use Rattle.std.specs.List.{AllByRecursion}
 use Rattle.std.specs.Result.{result_unwrap_or}
 use Rattle.dq_dataset.specs.declared.header.Syntax.{Syntax}
@@ -17,9 +17,8 @@ use Rattle.dq_tables.specs.declared.row.Kind.TheVariants.{Step}
 use Rattle.dq_tables.specs.ServiceEffects.{first_refusal, refusal_or}
 use Rattle.dq_tables.proofs.Lens.{rising_edit}
 use Rattle.dq_archive.specs.declared.additions.Addition.{Addition}
-use Rattle.dq_archive.specs.Additions.{is_lasting, is_later, lasting_records, without, IsTold}
-use Rattle.dq_archive.proofs.AddedRecords.{brief_edit}
-use Rattle.dq_archive.proofs.PastRecords.{swapped}
+use Rattle.dq_archive.specs.Additions.{is_lasting, lasting_records, without, IsTold}
+use Rattle.dq_archive.proofs.AddedRecords.{brief_edit, without_swapped}
 use Rattle.dq_tables.specs.StartedEntries.{entries_named}
 use Rattle.dq_mpps.specs.Steps.{step_record}
 use Rattle.dq_mpps.specs.NCreate.{creation, creation_refusals, create_outcome}
@@ -36,10 +35,6 @@ pub brief_edits : (h : List ℕ) (es : List Edit) (rows : List Row) → IsRising
 brief_edits h [] rows rising brief = refl
 brief_edits h (e ∷ es) rows rising brief =
     brief_edits h es (after_edit h e rows) (rising_edit h e rows rising) brief.1 ∙ brief_edit h e rows rising brief.0
-
-without_swapped : (later : List Addition) (rs : List Record) → lasting_records (without later rs) ≡ without later (lasting_records rs)
-unfolding lasting_records without
-without_swapped later rs = swapped (λ (r : Record). is_lasting r.kind) (λ (r : Record). not (is_later later r)) rs
 
 -- nothing is told of them
 pub told_brief : (h : List ℕ) (es : List Edit) (rows now : List Row) (log : List Addition) → IsRising rows → AreBrief es

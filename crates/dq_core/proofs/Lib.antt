@@ -16,5 +16,6 @@ pub mod Framing
 pub mod OpenQueries
 pub mod Pieces
 pub mod Turning
+pub mod Noting
 pub mod Taking
 pub mod Looking

@@ -132,9 +132,9 @@ module _ {q now : HeldQuery} {count : ℕ} {x0 x1 : List ℕ} (has : HasSent q n
 -- ---- which answers are at hand
 
 -- at most a page is at hand, and it is all
-pub few-left : (it : Answers) (records : List Record) → AreAtHand 65 it → length (at_hand it) ≤ 64
+pub few-left : (it : Answers) (records : List Record) → AreAtHand (Some 65) it → length (at_hand it) ≤ 64
     → nat_le (length (at_hand it ++ to_be_found records it)) 64 ≡ true
-few-left it records (inl many) few = absurd (omega (arith, many.1, few))
+few-left it records (inl many) few = absurd (omega (arith, many, few))
 few-left it records (inr all) few =
     let same : at_hand it ++ to_be_found records it ≡ at_hand it = ap (λ xs. at_hand it ++ xs) (all records) ∙ append-nil (at_hand it) in
     rw same (grind (arith, nat_tests))
@@ -162,8 +162,8 @@ page-is records q b e =
     (ap (λ (n : ℕ). nat_le n 64) (length-map (at_hand q.answers ++ to_be_found records q.answers) (pending_of q)) ∙ e)
 
 -- all are
-pub all-at-hand : (it : Answers) (records : List Record) → AreAtHand 18446744073709551615 it → at_hand it ++ to_be_found records it ≡ at_hand it
-all-at-hand it records (inl never) = absurd (omega (arith, never.0))
+pub all-at-hand : (it : Answers) (records : List Record) → AreAtHand None it → at_hand it ++ to_be_found records it ≡ at_hand it
+all-at-hand it records (inl none) = absurd none
 all-at-hand it records (inr all) = ap (λ xs. at_hand it ++ xs) (all records) ∙ append-nil (at_hand it)
 
 -- a response without a data set was sent

@@ -6,7 +6,7 @@ use Rattle.dq_pdu.specs.declared.pdu.Pdu.{Pdu}
 use Rattle.dq_pdu.specs.declared.pdu.Pdu.TheVariants.{Request as request_pdu}
 use Rattle.dq_pdu.specs.declared.pdu.Request.{Request}
 use Rattle.dq_pdu.specs.declared.fault.PduFault.{PduFault}
-use Rattle.dq_pdu.specs.Roles.{role_of}
+use Rattle.dq_assoc.specs.Roles.{role_of}
 use Rattle.dq_dimse.specs.declared.assembler.Accepted.{Accepted}
 use Rattle.dq_dimse.specs.declared.command.Message.{Message as HeldMessage}
 use Rattle.dq_dimse.specs.Holding.{AllRefine}
@@ -136,9 +136,9 @@ module _ (verdict : Verdict) (request : Request) (pdus : List Pdu) (fault : Opti
 
 -- ---- no PDU
 
-pub nothing_stands : (accepted : List Accepted) (close : Bool) (first : HeldStep) → first ≡ record { messages = []; octets = []; close = close }
-    → IsStep accepted first (record { messages = []; octets = []; close = close })
-nothing_stands accepted close first e = rw e (record { messages = tt; octets = refl; close = refl })
+pub nothing_stands : (accepted : List Accepted) (close : Bool) (first : HeldStep) → first ≡ record { messages = []; octets = []; close = close; end = None }
+    → IsStep accepted first (record { messages = []; octets = []; close = close; end = None })
+nothing_stands accepted close first e = rw e (record { messages = tt; octets = refl; close = refl; end = refl })
 
 pub taken_none : (agreement : Option Agreement) (verdict : Verdict) (pdus : List Pdu) (fault : Option PduFault) (opening : List ℕ) (first : HeldStep)
     → pdus ≡ [] → opening ≡ [] → IsStep (accepted_in agreement) first (step_of_inputs Waiting (inputs_from held.Waiting [] fault))

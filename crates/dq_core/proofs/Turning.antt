@@ -161,6 +161,17 @@ pub none-searches : (name : List ℕ) (slots : Slab Slot) → list_any (λ (e : 
     → (place : ℕ) (slot : Slot) → get slots place ≡ Some slot → is_searching name slot ≡ false
 none-searches name slots none place slot found_there = passed-by-none (is_searching name) 0 slots.slots none place slot found_there
 
+-- and the other way round
+passes-none : {A : Type 0} (test : A → Bool) (first : ℕ) (slots : List (Option A))
+    → ((at : ℕ) (value : A) → get_or slots at None ≡ Some value → test value ≡ false) → list_any (λ (e : ℕ × A). test e.1) (entries_from first slots) ≡ false
+passes-none test first [] none = refl
+passes-none test first (None ∷ slots) none = passes-none test (first + 1) slots (λ at value there. none (suc at) value there)
+passes-none test first (Some x ∷ slots) none = rw (none zero x refl) (passes-none test (first + 1) slots (λ at value there. none (suc at) value there))
+
+pub searches-none : (name : List ℕ) (slots : Slab Slot) → ((place : ℕ) (slot : Slot) → get slots place ≡ Some slot → is_searching name slot ≡ false)
+    → list_any (λ (e : ℕ × Slot). is_searching name e.1) (entries slots) ≡ false
+searches-none name slots none = passes-none (is_searching name) 0 slots.slots none
+
 -- a slot that was written is read again, and written again
 pub same-slot : (slots : Slab Slot) (place : ℕ) (old new again : Slot) → get slots place ≡ Some old → get (with_value slots place new) place ≡ Some again → again ≡ new
 same-slot slots place old new again there seen =

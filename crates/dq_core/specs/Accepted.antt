@@ -14,7 +14,7 @@ AreMessageInputs [] = Unit {0}
 AreMessageInputs (Sent message ∷ inputs) = AreMessageInputs inputs
 AreMessageInputs (Requested request ∷ inputs) = ⊥
 AreMessageInputs (Released ∷ inputs) = ⊥
-AreMessageInputs (PeerAborted ∷ inputs) = ⊥
+AreMessageInputs (PeerAborted source reason ∷ inputs) = ⊥
 AreMessageInputs (Stray ∷ inputs) = ⊥
 AreMessageInputs (Bad reason ∷ inputs) = ⊥
 
@@ -31,6 +31,6 @@ AreOpen institutions (Requested request ∷ inputs) =
     IsAccepted institutions request × AreMessageInputs inputs
 AreOpen institutions (Sent message ∷ inputs) = ⊥
 AreOpen institutions (Released ∷ inputs) = ⊥
-AreOpen institutions (PeerAborted ∷ inputs) = ⊥
+AreOpen institutions (PeerAborted source reason ∷ inputs) = ⊥
 AreOpen institutions (Stray ∷ inputs) = ⊥
 AreOpen institutions (Bad reason ∷ inputs) = ⊥

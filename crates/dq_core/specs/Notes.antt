@@ -1,5 +1,5 @@
--- The part of the values in a C-FIND's identifier that is noted for a log.
-use Rattle.std.specs.Prelude.{ℕ, List, [], ◌∷◌, take, Option, Some, None}
+-- What is noted for a log: of which connection, and which part of the values in a C-FIND's identifier.
+use Rattle.std.specs.Prelude.{◌≡◌, ℕ, List, [], ◌∷◌, ◌++◌, map, take, Option, Some, None}
 use Rattle.dq_vr.specs.declared.Tag.{Tag}
 use Rattle.dq_vr.specs.Tags.{modality, modalities_in_study, study_date}
 use Rattle.dq_vr.specs.Tags.{scheduled_procedure_step_sequence, scheduled_station_ae_title, scheduled_procedure_step_start_date}
@@ -8,7 +8,22 @@ use Rattle.dq_dataset.specs.Values.{element_at, element_octets}
 use Rattle.dq_tables.specs.Keys.{sole_item_at}
 use Rattle.dq_assoc.specs.declared.classes.Service.{Service}
 use Rattle.dq_assoc.specs.declared.classes.Service.TheVariants.{WorklistFind}
+use Rattle.dq_pdu.specs.declared.pdu.Request.{Request}
+use Rattle.dq_core.specs.declared.notes.LogEvent.{LogEvent}
+use Rattle.dq_core.specs.declared.notes.Note.{Note}
 use Rattle.dq_core.specs.declared.notes.QuerySummary.{QuerySummary}
+use Rattle.dq_core.specs.declared.notes.Titles.{Titles}
+
+abbrev pub note_on : ℕ → LogEvent → Note
+note_on number event = record { number = number; noted = event }
+
+-- Notes of some events on the connection with a number come after those of before.
+abbrev pub AddsNotesOf : ℕ → List Note → List Note → Type 0
+AddsNotesOf number old new = (events : List LogEvent) × (new ≡ old ++ map (note_on number) events)
+
+-- the titles of a request (PS3.8 section 9.3.2)
+abbrev pub titles_of : Request → Titles
+titles_of request = record { called = request.called; calling = request.calling }
 
 -- so many octets of a value
 abbrev pub noted_most : ℕ

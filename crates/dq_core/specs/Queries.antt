@@ -1,5 +1,5 @@
 -- The open query that a held query stands for, over the records that there were when it began. This is for the prover.
-use Rattle.std.specs.Prelude.{◌≡◌, ◌<◌, ◌≤◌, ◌⊎◌, ℕ, Bool, true, List, [], ◌∷◌, ◌++◌, length, drop, Option, Some, None, option_map, Result, OnOk}
+use Rattle.std.specs.Prelude.{◌≡◌, ◌≤◌, ◌⊎◌, ℕ, Bool, true, List, [], ◌∷◌, ◌++◌, length, drop, Option, Some, None, IsSomeAnd, option_map, Result, OnOk}
 use Rattle.dq_dataset.specs.Tree.{ElementList}
 use Rattle.dq_dimse.specs.declared.command.Command.{Command}
 use Rattle.dq_dimse.specs.Sending.{command_set, cut_into_pdus}
@@ -83,11 +83,10 @@ abbrev pub IsToldBy : Option Institution → List Row → List Row → List Addi
 IsToldBy None before after old new = after ≡ before
 IsToldBy (Some i) before after old new = IsTold i.name before after old new
 
--- So many answers are at hand, or all: the greatest number stands for all.
-abbrev pub AreAtHand : ℕ → Answers → Type 0
+-- So many answers are at hand, or all; all where there is no number.
+abbrev pub AreAtHand : Option ℕ → Answers → Type 0
 AreAtHand number it =
-    ((number < 18446744073709551615) × (number ≤ length (at_hand it)))
-    ⊎ ((records : List Record) → to_be_found records it ≡ [])
+    IsSomeAnd number (λ n. n ≤ length (at_hand it)) ⊎ ((records : List Record) → to_be_found records it ≡ [])
 
 -- a look at an archive as it was, at which nothing changes
 pub record LooksBack {T A : Type 0} (state : T → State) (old new : Past T)
@@ -96,7 +95,7 @@ pub record LooksBack {T A : Type 0} (state : T → State) (old new : Past T)
   pub reads : Reads (state_in state old) (state_in state new) result
 
 -- So many answers are at hand, or all, and what is left is what was.
-pub record Brings {T : Type 0} (state : T → State) (old new : Past T) (number : ℕ)
+pub record Brings {T : Type 0} (state : T → State) (old new : Past T) (number : Option ℕ)
     (before after : Answers) (result : Result (Unit {0}) TableFault) : Type 0 where
   pub looks : LooksBack state old new result
   pub stays : (state_in state new).honest → OnOk result

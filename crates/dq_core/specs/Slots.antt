@@ -20,6 +20,7 @@ use Rattle.dq_config.specs.Routing.{institution_routed, institution_named}
 use Rattle.dq_tables.specs.declared.row.Row.{Row}
 use Rattle.dq_tables.specs.Rows.{of, after_all}
 use Rattle.dq_core.specs.declared.connections.Connections.{Connections}
+use Rattle.dq_core.specs.declared.notes.Titles.{Titles as TheTitles}
 use Rattle.dq_core.specs.declared.slot.Slot.{Slot}
 use Rattle.dq_core.specs.declared.slot.Taken.{Taken as HeldTaken}
 use Rattle.dq_core.specs.Pages.{OpenQuery}
@@ -112,6 +113,19 @@ has_query_at (Some place) slots = has_query (get slots place)
 -- whether a C-FIND is open in the slot that is held under a number
 abbrev pub has_search : ℕ → Connections → Bool
 has_search number held = has_query_at (place_under nat_cmp held.places number) held.slots
+
+-- the titles of the request on the connection of a slot, once it is whole
+abbrev pub titles_in : Option Slot → Option TheTitles
+titles_in None = None
+titles_in (Some slot) = slot.titles
+
+abbrev pub titles_in_place : Option ℕ → Slab Slot → Option TheTitles
+titles_in_place None slots = None
+titles_in_place (Some place) slots = titles_in (get slots place)
+
+-- on that which is held under a number
+abbrev pub titles_at : ℕ → Connections → Option TheTitles
+titles_at number held = titles_in_place (place_under nat_cmp held.places number) held.slots
 
 -- numbers with their places, of the connections that are held
 abbrev pub AreAt : List Institution → List Row → List (List Addition) → Slab Slot → List (ℕ × ℕ)

@@ -21,11 +21,11 @@ pub(crate) enum Answers {
 }
 
 impl Answers {
-    /// Finds answers until so many are at hand, or all.
+    /// Finds answers until so many are at hand, or all; all where there is no number.
     pub(crate) fn find<T: Tables>(
         &mut self,
         archive: &mut Past<'_, T>,
-        number: usize,
+        number: Option<usize>,
     ) -> Result<(), TableFault>
         ensures { Brings T.state archive.old archive.new number self.old self.new result }
     {

@@ -19,13 +19,14 @@ ghost use Rattle.dq_core.specs.Stepping.{HealthAfter, MayLeaveAfter, IsPartOf};
 ghost use Rattle.dq_tables.specs.declared.row.Row.{Row};
 ghost use Rattle.dq_core.specs.declared.slot.Slot.{Slot as TheSlot};
 ghost use Rattle.dq_core.specs.Additions.{log_at, with_log, owner_place};
+ghost use Rattle.dq_core.specs.Notes.{AddsNotesOf};
 ghost use Rattle.dq_core.specs.OpenAssociations.{IsTallied, tally_of_name};
-ghost use Rattle.dq_core.specs.Slots.{IsUnsearched, is_searching, has_slot, has_search, AreHeld, IsHeld, StandsAt, Turned, Took, owner_at, verdict_for, without_association};
+ghost use Rattle.dq_core.specs.Slots.{IsUnsearched, is_searching, has_slot, has_search, titles_at, AreHeld, IsHeld, StandsAt, Turned, Took, owner_at, verdict_for, without_association};
 
 use crate::additions::Additions;
 use crate::event::Reply;
 use crate::fault::Fault;
-use crate::notes::{Notes, PduSummary};
+use crate::notes::{EventNotes, Notes, Titles};
 use crate::open_associations::{OpenAssociations, place_of};
 use crate::slot::{Called, Slot, Taken};
 use dq_archive::Addition;
@@ -81,10 +82,12 @@ impl Connections {
     pub(crate) fn clear(&mut self)
         ensures config { self.new.config ≡ self.old.config }
         ensures newest { self.new.newest ≡ self.old.newest }
+        ensures additions { self.new.additions.logs.items ≡ [] }
     {
         self.places.clear();
         self.slots.clear();
         self.spares.clear();
+        self.additions.logs.clear();
     }
 
     /// There are not too many connections to be counted.
@@ -127,6 +130,17 @@ impl Connections {
         }
     }
 
+    /// The titles of the request on the connection that is held under a number, once it is whole.
+    pub(crate) fn titles(&self, number: u64) -> Option<Titles>
+        ensures { result ≡ titles_at number self.now }
+    {
+        let place = self.place_of(number)?;
+        match self.slots.get(place) {
+            Some(slot) => slot.titles,
+            None => None,
+        }
+    }
+
     /// Takes the slot with a number out of its place.
     fn remove(&mut self, number: u64, place: usize)
         ensures slots { Updates self.old.slots self.new.slots place None }
@@ -163,6 +177,7 @@ impl Connections {
     }
 
     /// Answers a piece, and ends the connection where the answer closes it.
+    #[tactic(auto, using(crate::proofs::Noting::none_added))]
     pub(crate) fn answer_piece<T: Tables>(
         &mut self,
         tables: &mut T,
@@ -191,6 +206,9 @@ impl Connections {
         ensures always { (piece.now ≡ []) ⊎ (has_slot number self.old ≡ false) → IsOk result }
         ensures config { self.new.config ≡ self.old.config }
         ensures newest { self.new.newest ≡ self.old.newest }
+        ensures noted { AddsNotesOf number notes.old.list.items notes.new.list.items }
+        // A fault adds no note, not even of an operation before it in the same piece.
+        ensures unnoted { OnErr result (notes.new ≡ notes.old) }
     {
         an_association_after_pdus();
         a_name_is_of_one();
@@ -207,20 +225,21 @@ impl Connections {
             return Ok(Reply::Ignored);
         };
         let was_open = slot.institution.is_some();
-        let (owner, taken, heard) = take_piece(alloc, &self.config, &self.tally, slot, piece)?;
-        let close = taken.step.close;
+        let (owner, taken) = take_piece(alloc, &self.config, &self.tally, slot, piece)?;
+        let (close, end) = (taken.step.close, taken.step.end);
         let is_open = stays_open(slot, close);
-        notes.turn_to(number);
-        note_acceptance(notes, slot, heard, was_open);
-        let ending = heard.ending(&taken.step);
+        let titles = slot.titles;
+        let mut noted = notes.of_event();
+        note_acceptance(&mut noted, slot, was_open);
         let at = owner_place(&self.config, owner);
         let mut log = take_log(alloc, &self.slots, &mut self.additions, at, owner);
         let Some(slot) = self.slots.get_mut(place) else {
             return Ok(Reply::Ignored);
         };
-        let octets = slot.answer(owner, taken, tables, &mut log, notes)?;
+        let octets = slot.answer(owner, taken, tables, &mut log, &mut noted)?;
         self.additions.put(at, log);
-        notes.close(ending);
+        noted.close(titles, end);
+        notes.add(number, noted);
         self.tally.retally(&self.config, owner, was_open, is_open);
         if close {
             self.remove(number, place);
@@ -230,6 +249,7 @@ impl Connections {
 
     /// Answers a pull with the next page of the C-FIND that is open. Where none is, it takes no
     /// memory.
+    #[tactic(auto, using(crate::proofs::Noting::none_added))]
     pub(crate) fn answer_pull<T: Tables>(
         &mut self,
         tables: &mut T,
@@ -255,6 +275,8 @@ impl Connections {
         ensures always { has_search number self.old ≡ false → IsOk result }
         ensures config { self.new.config ≡ self.old.config }
         ensures newest { self.new.newest ≡ self.old.newest }
+        ensures noted { AddsNotesOf number notes.old.list.items notes.new.list.items }
+        ensures unnoted { OnErr result (notes.new ≡ notes.old) }
     {
         let Some(place) = self.place_of(number) else {
             return Ok(Reply::Ignored);
@@ -262,8 +284,9 @@ impl Connections {
         let Some(slot) = self.slots.get_mut(place) else {
             return Ok(Reply::Ignored);
         };
-        notes.turn_to(number);
-        let octets = slot.send_page(&self.config, &self.additions, tables, notes)?;
+        let mut noted = notes.of_event();
+        let octets = slot.send_page(&self.config, &self.additions, tables, &mut noted)?;
+        notes.add(number, noted);
         Ok(octets_reply(number, octets, false))
     }
 
@@ -378,6 +401,7 @@ fn take_log(
     ensures left { additions.new.logs.items ≡ with_log additions.old.logs.items place [] }
     ensures taken { (result ≡ log_at additions.old.logs.items place)
         ⊎ IsUnsearched slots.now (option_copied owner.entry) }
+    ensures begun_anew { IsUnsearched slots.now (option_copied owner.entry) → result ≡ [] }
 {
     let log = additions.take(alloc, place);
     let Some(institution) = owner else {
@@ -410,24 +434,29 @@ fn end_association(config: &Config, tally: &mut OpenAssociations, slot: Option<&
 }
 
 /// Notes the association that a connection has, if it has one and had none before.
-fn note_acceptance(notes: &mut Notes, slot: &Slot, heard: PduSummary, was_open: bool) {
+fn note_acceptance(notes: &mut EventNotes, slot: &Slot, was_open: bool) {
     if was_open {
         return;
     }
-    if let Some(name) = &slot.institution {
-        notes.accept(name, slot.association.agreement(), heard);
+    let agreement = slot.association.agreement();
+    if let (Some(name), Some(agreement), Some(titles)) = (
+        &slot.institution,
+        agreement,
+        slot.titles,
+    ) {
+        notes.accept(name, titles, agreement.contexts.len());
     }
 }
 
 /// Takes a piece on the connection that has a slot: gives the institution that has the connection,
-/// what is to be answered, and what a log is told of.
+/// and what is to be answered.
 fn take_piece<'a>(
     alloc: Global,
     config: &'a Config,
     tally: &OpenAssociations,
     slot: &mut Slot,
     piece: &[u8],
-) -> Result<(Option<&'a Institution>, Taken, PduSummary), AllocError>
+) -> Result<(Option<&'a Institution>, Taken), AllocError>
     ensures { (world : World) (c : Connection) → IsHeld config.now slot.old c →
         IsTallied config.now tally.now.counts.items world.connections → IfOk result (λ x.
         Took config.now world c piece.now (option_copied x.0) x.1 slot.old slot.new) }
@@ -441,13 +470,12 @@ fn take_piece<'a>(
         return Err(AllocError);
     };
     let institution = owner_of(config, slot, fed.pdus.as_slice());
-    let heard = PduSummary::of(fed.pdus.as_slice());
     let called = Called {
         institution,
         verdict: verdict_for(config, tally, institution),
     };
     let taken = slot.take(alloc, called, fed)?;
-    Ok((institution, taken, heard))
+    Ok((institution, taken))
 }
 
 fn octets_reply(number: u64, octets: Vec<u8>, close: bool) -> Reply

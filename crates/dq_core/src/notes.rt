@@ -1,15 +1,18 @@
 //! Notes of what is served, for a log. Of a data set they hold nothing but the tags of a query's keys,
 //! and what it asks of the modality, the station and the day.
-ghost use Rattle.std.specs.Prelude.{◌≡◌, take, IfOk};
+ghost use Rattle.std.specs.Prelude.{◌≡◌, ◌&&◌, [], true, take, IfOk};
+ghost use Rattle.std.specs.Str.{bytes_eq};
 ghost use Rattle.std.specs.Option.{option_copied};
+ghost use Rattle.dq_value.specs.Title.{without_spaces};
 ghost use Rattle.dq_dataset.specs.Values.{element_octets};
 ghost use Rattle.dq_core.specs.Notes.{noted_most, noted_octets, values_asked, asked_of_entries, asked_of_studies, asked_by};
 
-use dq_assoc::{Agreement, PeerLimit, Service, Step};
+use dq_assoc::{AssociationEnd, Service};
 use dq_dataset::{DataSet, Element, Value};
 use dq_list::Listed;
-use dq_pdu::Pdu;
+use dq_pdu::Request;
 use dq_tables::sole_item_at;
+use dq_value::stripped;
 use dq_vr::{Tag, tags};
 use std::alloc::{AllocError, Global};
 use std::mem;
@@ -24,11 +27,27 @@ pub struct Titles {
     pub calling: [u8; 16],
 }
 
-/// The side that aborts an association.
-#[derive(Clone, Copy, Debug, PartialEq, Eq)]
-pub enum Party {
-    Peer,
-    Server,
+impl Titles {
+    ghost use Rattle.dq_core.specs.Notes.{titles_of};
+
+    /// Returns the titles of a request.
+    pub(crate) fn of(request: &Request) -> Titles
+        ensures { result ≡ titles_of request.now }
+    {
+        Titles {
+            called: request.called,
+            calling: request.calling,
+        }
+    }
+
+    /// Whether others are the same, but for the spaces at their ends.
+    pub fn are_alike(&self, others: &Titles) -> bool
+        ensures { result ≡ (bytes_eq (without_spaces self.now.called) (without_spaces others.now.called)
+            && bytes_eq (without_spaces self.now.calling) (without_spaces others.now.calling)) }
+    {
+        stripped(&self.called) == stripped(&others.called)
+            && stripped(&self.calling) == stripped(&others.calling)
+    }
 }
 
 /// The query of a C-FIND: the tags of its keys, those of a worklist's step after the others, and
@@ -50,23 +69,12 @@ pub enum LogEvent {
         titles: Titles,
         contexts: usize,
     },
-    /// One was rejected: result, source and reason of PS3.8 section 9.3.4, and whether the maximum
-    /// length that was asked for has room for data (PS3.8 annex D.1).
-    Rejected {
-        titles: Titles,
-        result: u8,
-        source: u8,
-        reason: u8,
-        has_room: bool,
+    /// The connection was closed, as its association ended, or before there was one. The titles are
+    /// those of its request, if that came.
+    Closed {
+        titles: Option<Titles>,
+        end: AssociationEnd,
     },
-    /// Source and reason of PS3.8 section 9.3.8.
-    Aborted {
-        party: Party,
-        source: u8,
-        reason: u8,
-    },
-    /// The association was released.
-    Released,
     /// The connection ended.
     Ended,
     /// A message of a service was answered with a status, and a C-FIND with so many answers.
@@ -100,49 +108,79 @@ pub struct Notes {
     pub list: Vec<Note>,
     pub lost: u64,
     alloc: Global,
-    number: u64,
     is_kept: bool,
 }
 
-/// The facts in the PDUs of a piece that no answer shows: the titles of a request, whether its
-/// maximum length has room for data, and the source and the reason of an abort.
-#[derive(Clone, Copy)]
-pub(crate) struct PduSummary {
-    titles: Option<Titles>,
-    has_room: bool,
-    abort: Option<(u8, u8)>,
+/// The notes of one event in order, before they have the number of its connection, and how many there
+/// was no memory for.
+#[derive(Drop)]
+pub(crate) struct EventNotes {
+    list: Vec<LogEvent>,
+    lost: u64,
+    alloc: Global,
+    is_kept: bool,
 }
 
 impl Notes {
+    ghost use Rattle.dq_core.specs.Notes.{AddsNotesOf};
+
     /// Nothing is noted.
-    pub(crate) fn none(alloc: Global) -> Self {
+    pub(crate) fn none(alloc: Global) -> Self
+        ensures { (result.list.items ≡ []) × (result.lost ≡ 0) }
+    {
         Notes {
             list: Vec::new(alloc),
             lost: 0,
             alloc,
-            number: 0,
             is_kept: false,
         }
     }
 
     /// Gives the notes away. From then on what is served is noted.
-    pub(crate) fn give(&mut self) -> Notes {
+    pub(crate) fn give(&mut self) -> Notes
+        ensures given { result ≡ self.old }
+        ensures left { (self.new.list.items ≡ []) × (self.new.lost ≡ 0) × (self.new.is_kept ≡ true) }
+    {
         let mut fresh = Notes::none(self.alloc);
         fresh.is_kept = true;
         mem::replace(self, fresh)
     }
 
-    /// Notes are of the connection with a number from now on.
-    pub(crate) fn turn_to(&mut self, number: u64) {
-        self.number = number;
+    /// Returns the notes of an event, of which nothing is noted yet.
+    pub(crate) fn of_event(&self) -> EventNotes {
+        EventNotes {
+            list: Vec::new(self.alloc),
+            lost: 0,
+            alloc: self.alloc,
+            is_kept: self.is_kept,
+        }
     }
 
+    /// Adds the notes of an event on the connection with a number.
+    pub(crate) fn add(&mut self, number: u64, event: EventNotes)
+        ensures { AddsNotesOf number self.old.list.items self.new.list.items }
+    {
+        self.lost = self.lost.saturating_add(event.lost);
+        for noted in event.list {
+            if self.list.push(Note { number, noted }).is_err() {
+                self.lost = self.lost.saturating_add(1);
+            }
+        }
+    }
+
+    /// The connection with a number ended.
+    pub(crate) fn end(&mut self, number: u64)
+        ensures { AddsNotesOf number self.old.list.items self.new.list.items }
+    {
+        let mut noted = self.of_event();
+        noted.put(LogEvent::Ended);
+        self.add(number, noted);
+    }
+}
+
+impl EventNotes {
     fn put(&mut self, noted: LogEvent) {
-        let note = Note {
-            number: self.number,
-            noted,
-        };
-        if self.is_kept && self.list.push(note).is_err() {
+        if self.is_kept && self.list.push(noted).is_err() {
             self.lose();
         }
     }
@@ -151,37 +189,23 @@ impl Notes {
         self.lost = self.lost.saturating_add(1);
     }
 
-    /// An association is open at the institution of a name.
-    pub(crate) fn accept(
-        &mut self,
-        name: &Listed<u8>,
-        agreement: Option<&Agreement>,
-        heard: PduSummary,
-    ) {
-        let (Some(agreement), Some(titles)) = (agreement, heard.titles) else {
-            return;
-        };
+    /// An association of so many contexts is open at the institution of a name.
+    pub(crate) fn accept(&mut self, name: &Listed<u8>, titles: Titles, contexts: usize) {
         match Listed::copy_of(self.alloc, name.as_slice()) {
             Ok(institution) => self.put(LogEvent::Accepted {
                 institution,
                 titles,
-                contexts: agreement.contexts.len(),
+                contexts,
             }),
             Err(AllocError) => self.lose(),
         }
     }
 
-    /// Notes the event by which a connection is closed.
-    pub(crate) fn close(&mut self, ending: Option<LogEvent>) {
-        if let Some(noted) = ending {
-            self.put(noted);
+    /// Notes the end by which a connection is closed, if it is.
+    pub(crate) fn close(&mut self, titles: Option<Titles>, end: Option<AssociationEnd>) {
+        if let Some(end) = end {
+            self.put(LogEvent::Closed { titles, end });
         }
-    }
-
-    /// The connection with a number ended.
-    pub(crate) fn end(&mut self, number: u64) {
-        self.number = number;
-        self.put(LogEvent::Ended);
     }
 
     /// The allocator that they were made with.
@@ -236,65 +260,6 @@ impl Notes {
             answers,
             query,
         });
-    }
-}
-
-impl PduSummary {
-    /// Returns what the first of the PDUs tells of a request, and the first abort among them.
-    pub(crate) fn of(pdus: &[Pdu]) -> PduSummary {
-        let (titles, has_room) = match pdus.first() {
-            Some(Pdu::Request(request)) => (
-                Some(Titles {
-                    called: request.called,
-                    calling: request.calling,
-                }),
-                PeerLimit::of(request.maximum_length).is_some(),
-            ),
-            _ => (None, false),
-        };
-        let mut abort = None;
-        for pdu in pdus {
-            if let Pdu::Abort(source, reason) = pdu {
-                abort = abort.or(Some((*source, *reason)));
-            }
-        }
-        PduSummary {
-            titles,
-            has_room,
-            abort,
-        }
-    }
-
-    /// Returns the event by which a step closes a connection, if it does: the PDU that it answers
-    /// with, or an abort by the peer if it answers with none (PS3.8 section 9.2).
-    pub(crate) fn ending(self, step: &Step) -> Option<LogEvent> {
-        if !step.close {
-            return None;
-        }
-        match step.octets.as_slice() {
-            [] => {
-                let (source, reason) = self.abort?;
-                Some(LogEvent::Aborted {
-                    party: Party::Peer,
-                    source,
-                    reason,
-                })
-            }
-            [3, _, _, _, _, _, _, result, source, reason] => Some(LogEvent::Rejected {
-                titles: self.titles?,
-                result: *result,
-                source: *source,
-                reason: *reason,
-                has_room: self.has_room,
-            }),
-            [6, ..] => Some(LogEvent::Released),
-            [7, _, _, _, _, _, _, _, source, reason] => Some(LogEvent::Aborted {
-                party: Party::Server,
-                source: *source,
-                reason: *reason,
-            }),
-            _ => None,
-        }
     }
 }
 

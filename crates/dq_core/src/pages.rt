@@ -9,7 +9,7 @@ ghost use Rattle.dq_core.specs.declared.pages.OpenQuery.{OpenQuery as HeldQuery}
 ghost use Rattle.dq_core.specs.Queries.{at_hand, open_query_of, open_query_in, command_octets, LooksBack};
 
 use crate::answers::Answers;
-use crate::notes::{Notes, ServedNote};
+use crate::notes::{EventNotes, ServedNote};
 use dq_archive::Past;
 use dq_assoc::{AcceptedContext, PeerLimit, SopClass};
 use dq_dimse::{Command, CommandRef, append_command, append_data_set, command_field, status};
@@ -182,13 +182,13 @@ impl OpenQuery {
         mut self,
         archive: &mut Past<'_, T>,
         out: &mut Vec<u8>,
-        notes: &mut Notes,
+        notes: &mut EventNotes,
     ) -> Result<(), TableFault>
         ensures looks { LooksBack T.state archive.old archive.new result }
         ensures sent { (state_in T.state archive.new).honest → OnOk result (out.new.items
             ≡ out.old.items ++ rest (open_query_of (records_in T.state archive.old) self)) }
     {
-        self.answers.find(archive, usize::MAX)?;
+        self.answers.find(archive, None)?;
         let count = self.answers.at_hand();
         self.send_pending(archive.alloc, count, out)?;
         let status = self.answers.status();
@@ -203,7 +203,7 @@ impl OpenQuery {
         mut self,
         archive: &mut Past<'_, T>,
         out: &mut Vec<u8>,
-        notes: &mut Notes,
+        notes: &mut EventNotes,
     ) -> Result<Option<Self>, TableFault>
         ensures looks { LooksBack T.state archive.old archive.new result }
         ensures sent { (state_in T.state archive.new).honest → IfOk result (λ query.
@@ -213,7 +213,7 @@ impl OpenQuery {
         ensures since { IfOk result (λ query. (left : HeldQuery) → query ≡ Some left
             → left.since ≡ self.since) }
     {
-        self.answers.find(archive, PAGE_LENGTH + 1)?;
+        self.answers.find(archive, Some(PAGE_LENGTH + 1))?;
         if self.answers.at_hand() <= PAGE_LENGTH {
             self.send_rest(archive, out, notes)?;
             return Ok(None);
@@ -230,7 +230,7 @@ impl OpenQuery {
         alloc: Global,
         id: u16,
         out: &mut Vec<u8>,
-        notes: &mut Notes,
+        notes: &mut EventNotes,
     ) -> Result<Option<Self>, AllocError>
         ensures sent { (records : List Record) → IfOk result (λ query.
             let reaction = cancel_reaction id (open_query_of records self) in

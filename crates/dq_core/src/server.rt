@@ -13,11 +13,9 @@ ghost use Rattle.dq_core.specs.Soundness.{HoldSound, BringOctets};
 ghost use Rattle.dq_core.specs.Conversations.{IsAnsweredRun};
 ghost use Rattle.dq_core.specs.Histories.{is_above, newest_after, rises_from, is_well_formed_history};
 ghost use Rattle.dq_core.specs.Stepping.{Opens, TakesNoMemory, HealthAfter, MayLeaveAfter, IsPartOf};
-ghost use Rattle.dq_core.specs.Slots.{has_slot, has_search, AreHeld, Turned};
+ghost use Rattle.dq_core.specs.Slots.{has_slot, has_search, titles_at, AreHeld, Turned};
 ghost use Rattle.dq_core.specs.ServerView.{IsQuiet, IsWorking, Refines};
-ghost use Rattle.dq_tables.specs.Lookups.{rows_of};
 ghost use Rattle.dq_core.specs.Looking.{Looked, FailsToLook};
-ghost use Rattle.dq_core.specs.Showing.{found_for, steps_for};
 
 use crate::brought_octets::bring_octets;
 use crate::connections::Connections;
@@ -27,15 +25,12 @@ use crate::laws::{
     associations_are_answered_in_full, institutions_are_answered_by_records,
     institutions_are_isolated, institutions_have_own_names, runs_are_isolated,
 };
-use crate::notes::Notes;
+use crate::notes::{Notes, Titles};
 use crate::orders::{schedule_entry, withdraw_entry};
-use crate::showing::{SearchKind, ShownPage, search_page, steps_page};
 use crate::table_inspection::TableInspection;
 use dq_config::{Config, Institution};
-use dq_dataset::DataSet;
 use dq_list::Listed;
-use dq_match::Found;
-use dq_tables::{Kind, Tables};
+use dq_tables::Tables;
 use std::alloc::{AllocError, Global};
 use std::marker::Model;
 
@@ -146,6 +141,13 @@ impl<T: Tables> Server<T> {
         !self.spent && self.connections.is_pending(number)
     }
 
+    /// The titles of the request on the connection that is held under a number, once it is whole.
+    pub fn titles(&self, number: u64) -> Option<Titles>
+        ensures { result ≡ titles_at number self.now.slots }
+    {
+        self.connections.titles(number)
+    }
+
     /// The institutions that share the server, in the order of the configuration.
     pub fn institutions(&self) -> &[Institution]
         ensures { result.now ≡ self.now.institutions }
@@ -228,87 +230,6 @@ impl<T: Tables> Server<T> {
         }
     }
 
-    /// Counts the rows of a kind that the institution of a name has. This is no event, and changes
-    /// nothing. After a fault, of a step or of a count, every count is answered Stopped.
-    pub fn count(&mut self, kind: Kind, name: &[u8]) -> Result<u64, Fault>
-        ensures found { (T.state self.new.tables).honest → IfOk result (λ number.
-            number ≡ length (rows_of kind name.now (T.state self.old.tables).rows)) }
-        ensures looked { OnOk result (Looked T.state self.old self.new) }
-        ensures fails { IfErr result (FailsToLook T.state self.old self.new) }
-        ensures working { IsWorking T.state self.old → IsWorking T.state self.new }
-    {
-        if self.spent {
-            Err(Fault::Stopped)
-        } else {
-            match self.tables.count(kind, name) {
-                Ok(number) => Ok(number),
-                Err(fault) => {
-                    self.spend();
-                    Err(Fault::from(fault))
-                }
-            }
-        }
-    }
-
-    /// Returns a page of what keys find among the records of the institution of a name, if there is
-    /// one: the answers to a C-FIND with these keys. It is not an event, and changes nothing. No
-    /// title is called, so the answers of Study Root show an empty one. After a fault every search
-    /// returns `Stopped`.
-    pub fn search(
-        &mut self,
-        name: &[u8],
-        kind: SearchKind,
-        keys: &DataSet,
-        page: ShownPage,
-    ) -> Result<Option<Found>, Fault>
-        ensures found { (T.state self.new.tables).honest → IfOk result (λ found. found ≡ found_for
-            self.old.institutions name.now (T.state self.old.tables).rows kind keys.now page) }
-        ensures looked { OnOk result (Looked T.state self.old self.new) }
-        ensures fails { IfErr result (FailsToLook T.state self.old self.new) }
-        ensures working { IsWorking T.state self.old → IsWorking T.state self.new }
-    {
-        if self.spent {
-            Err(Fault::Stopped)
-        } else {
-            let Some(institution) = self.connections.config.institution(name) else {
-                return Ok(None);
-            };
-            match search_page(&mut self.tables, institution, kind, keys, page) {
-                Ok(found) => Ok(Some(found)),
-                Err(fault) => {
-                    self.spend();
-                    Err(Fault::from(fault))
-                }
-            }
-        }
-    }
-
-    /// The performed procedure steps of the institution of a name, if there is one, in the order of
-    /// their keys, and of these a page. It is no event, and changes nothing. After a fault it is
-    /// answered Stopped.
-    pub fn steps(&mut self, name: &[u8], page: ShownPage) -> Result<Option<Listed<DataSet>>, Fault>
-        ensures found { (T.state self.new.tables).honest → IfOk result (λ found. found ≡ steps_for
-            self.old.institutions name.now (T.state self.old.tables).rows page) }
-        ensures looked { OnOk result (Looked T.state self.old self.new) }
-        ensures fails { IfErr result (FailsToLook T.state self.old self.new) }
-        ensures working { IsWorking T.state self.old → IsWorking T.state self.new }
-    {
-        if self.spent {
-            Err(Fault::Stopped)
-        } else {
-            let Some(institution) = self.connections.config.institution(name) else {
-                return Ok(None);
-            };
-            match steps_page(&mut self.tables, institution, page) {
-                Ok(steps) => Ok(Some(steps)),
-                Err(fault) => {
-                    self.spend();
-                    Err(Fault::from(fault))
-                }
-            }
-        }
-    }
-
     /// The notes of what was served since it was last asked, for a log. What was served before it
     /// was asked first is not noted.
     pub fn take_notes(&mut self) -> Notes
@@ -317,20 +238,28 @@ impl<T: Tables> Server<T> {
         self.notes.give()
     }
 
-    /// Looks at what keeps the rows. It is no event, and changes nothing. After a fault every look is
-    /// answered Stopped.
+    /// Looks at what keeps the rows. It is not an event, and changes nothing. After a fault, of a step
+    /// or of a look, every look returns `Stopped`.
     pub fn look<L: TableInspection<T>>(&mut self, look: &L) -> Result<L::Seen, Fault>
-        ensures shows { (T.state self.new.tables).honest → IfOk result (λ seen.
-            L.shows look.now (T.state self.old.tables).rows seen) }
+        ensures shows { (T.state self.new.tables).honest → IfOk result
+            (L.shows look.now self.old.institutions (T.state self.old.tables).rows) }
         ensures looked { OnOk result (Looked T.state self.old self.new) }
-        ensures stopped { IfErr result (λ fault. fault ≡ Fault.Stopped) }
-        ensures spent { IsOk result ↔ (self.old.spent ≡ false) }
-        ensures unchanged { OnErr result (self.new ≡ self.old) }
+        ensures fails { IfErr result (FailsToLook T.state self.old self.new) }
+        // It fails after a fault, and otherwise only where the inspection may.
+        ensures spent { OnOk result (self.old.spent ≡ false) }
+        ensures may_fail { OnErr result (self.old.spent ≡ false → L.may_fail look.now) }
+        ensures working { IsWorking T.state self.old → IsWorking T.state self.new }
     {
         if self.spent {
             Err(Fault::Stopped)
         } else {
-            Ok(look.look(&mut self.tables))
+            match look.look(&self.connections.config, &mut self.tables) {
+                Ok(seen) => Ok(seen),
+                Err(fault) => {
+                    self.spend();
+                    Err(Fault::from(fault))
+                }
+            }
         }
     }
 

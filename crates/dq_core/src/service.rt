@@ -21,7 +21,7 @@ use crate::answer_queue::AnswerQueue;
 use crate::answers::Answers;
 use crate::dimse_operation::DimseOperation;
 use crate::fault::Fault;
-use crate::notes::{Notes, ServedNote};
+use crate::notes::{EventNotes, ServedNote};
 use crate::pages::OpenQuery;
 use crate::slot::Taken;
 use dq_archive::{Addition, Past};
@@ -200,7 +200,7 @@ impl<'a> Provider<'a> {
         self,
         context: AcceptedContext,
         message: &Message,
-        notes: &mut Notes,
+        notes: &mut EventNotes,
     ) -> Option<ServedNote> {
         if !notes.are_kept() {
             return None;
@@ -218,7 +218,7 @@ impl<'a> Provider<'a> {
         message: Message,
         tables: &mut T,
         log: &mut Listed<Addition>,
-        notes: &mut Notes,
+        notes: &mut EventNotes,
     ) -> Result<Answered, Fault>
         ensures goes { HealthAfter (T.state tables.old) (T.state tables.new) result }
         ensures does { (T.state tables.new).honest → (sent : Received) →
@@ -278,7 +278,7 @@ impl<'a> Provider<'a> {
         message: Message,
         tables: &mut T,
         log: &mut Listed<Addition>,
-        notes: &mut Notes,
+        notes: &mut EventNotes,
     ) -> Result<Answered, Fault>
         ensures goes { HealthAfter (T.state tables.old) (T.state tables.new) result }
         ensures does { (T.state tables.new).honest → (sent : Received) →
@@ -329,7 +329,7 @@ impl<'a> Provider<'a> {
         messages: Vec<Message>,
         tables: &mut T,
         log: &mut Listed<Addition>,
-        notes: &mut Notes,
+        notes: &mut EventNotes,
     ) -> Result<Answered, Fault>
         ensures goes { HealthAfter (T.state tables.old) (T.state tables.new) result }
         ensures does { (T.state tables.new).honest → (sent : List Received) →
@@ -375,7 +375,7 @@ impl<'a> Provider<'a> {
         taken: Taken,
         tables: &mut T,
         log: &mut Listed<Addition>,
-        notes: &mut Notes,
+        notes: &mut EventNotes,
     ) -> Result<Answered, Fault>
         ensures goes { HealthAfter (T.state tables.old) (T.state tables.new) result }
         ensures does { (T.state tables.new).honest → (t : Pure) →
@@ -421,7 +421,7 @@ fn send_rest<T: Tables>(
     query: OpenQuery,
     tables: &mut T,
     out: &mut Vec<u8>,
-    notes: &mut Notes,
+    notes: &mut EventNotes,
 ) -> Result<(), TableFault>
     ensures reads { Reads (T.state tables.old) (T.state tables.new) result }
     ensures sent { (T.state tables.new).honest → OnOk result (out.new.items ≡ out.old.items
@@ -439,7 +439,7 @@ pub(crate) fn send_page<T: Tables>(
     query: OpenQuery,
     tables: &mut T,
     out: &mut Vec<u8>,
-    notes: &mut Notes,
+    notes: &mut EventNotes,
 ) -> Result<Option<OpenQuery>, TableFault>
     ensures reads { Reads (T.state tables.old) (T.state tables.new) result }
     ensures sent { (T.state tables.new).honest → IfOk result (λ left.

@@ -1,4 +1,4 @@
-ghost use Rattle.std.specs.Prelude.{◌≡◌, ◌≢◌, ◌⊎◌, List, [], ◌∷◌, ◌++◌, Option, None, false, IfOk, IfErr, OnOk, OnErr, IsOk, true};
+ghost use Rattle.std.specs.Prelude.{◌≡◌, ◌≢◌, ◌⊎◌, List, [], ◌∷◌, ◌++◌, Option, Some, None, false, IfOk, IfErr, OnOk, OnErr, IsOk, true};
 ghost use Rattle.std.specs.Option.{option_copied};
 ghost use Rattle.dq_pdu.specs.declared.pdu.Pdu.{Pdu};
 ghost use Rattle.dq_pdu.specs.declared.pdu.Pdu.TheVariants as pdu;
@@ -11,6 +11,7 @@ ghost use Rattle.dq_assoc.specs.Associations.{HeldState};
 ghost use Rattle.dq_assoc.specs.Holding.{Stands, held_agreement, held_state};
 ghost use Rattle.dq_config.specs.declared.config.Institution.{Institution};
 ghost use Rattle.dq_core.specs.Effects.{AnswerApplied, AnswerPartlyApplied, Taken as Pure, agreement_after, taken_inputs};
+ghost use Rattle.dq_core.specs.Notes.{titles_of};
 ghost use Rattle.dq_core.specs.Pages.{next_page};
 ghost use Rattle.dq_tables.specs.declared.row.Row.{Row};
 ghost use Rattle.dq_core.specs.Queries.{IsBegun, IsToldBy, query_by};
@@ -19,7 +20,7 @@ ghost use Rattle.dq_core.specs.Stepping.{HealthAfter, MayLeaveAfter};
 
 use crate::additions::Additions;
 use crate::fault::Fault;
-use crate::notes::Notes;
+use crate::notes::{EventNotes, Titles};
 use crate::pages::OpenQuery;
 use crate::service::{Provider, SearchScope, answer_unserved, send_page};
 use dq_archive::Addition;
@@ -31,14 +32,15 @@ use dq_pdu::{Fed, Inbox, Pdu, Request};
 use dq_tables::Tables;
 use std::alloc::{AllocError, Global};
 
-/// A connection that is held: its number, what came on it so far, its association, the name of the
-/// institution that has it once its request was accepted, and the C-FIND whose responses were not
-/// all sent, if there is one.
+/// A connection that is held: its number, what came on it so far, its association, the titles of its
+/// request once that is whole, the name of the institution that has it once its request was accepted,
+/// and the C-FIND whose responses were not all sent, if there is one.
 #[derive(Drop)]
 pub(crate) struct Slot {
     pub number: u64,
     pub inbox: Inbox,
     pub association: Association,
+    pub titles: Option<Titles>,
     pub institution: Option<Listed<u8>>,
     pub query: Option<OpenQuery>,
 }
@@ -70,6 +72,7 @@ impl Slot {
             number,
             inbox: Inbox::new(alloc),
             association: Association::new(alloc),
+            titles: None,
             institution: None,
             query: None,
         }
@@ -86,6 +89,7 @@ impl Slot {
         self.number = number;
         self.inbox.reset();
         self.association.reset();
+        self.titles = None;
         self.institution = None;
         self.query = None;
     }
@@ -106,7 +110,7 @@ impl Slot {
         config: &Config,
         additions: &Additions,
         tables: &mut T,
-        notes: &mut Notes,
+        notes: &mut EventNotes,
     ) -> Result<Vec<u8>, Fault>
         ensures goes { HealthAfter (T.state tables.old) (T.state tables.new) result }
         ensures same { (T.state tables.new).honest →
@@ -154,7 +158,7 @@ impl Slot {
         taken: Taken,
         tables: &mut T,
         log: &mut Listed<Addition>,
-        notes: &mut Notes,
+        notes: &mut EventNotes,
     ) -> Result<Vec<u8>, Fault>
         ensures goes { HealthAfter (T.state tables.old) (T.state tables.new) result }
         ensures does { (T.state tables.new).honest → (t : Pure) →
@@ -299,6 +303,7 @@ impl Slot {
         rest: Fed,
     ) -> Result<Taken, AllocError>
         requires { held_state self.old.association ≡ Waiting }
+        ensures titles { self.new.titles ≡ Some (titles_of request) }
         ensures taken { IfOk result (λ t. IsTaken (held_agreement self.new.association) t
             (taken_inputs called.entry.verdict Waiting
             (inputs_from pure.Waiting (pdu.Request request ∷ rest.pdus) rest.fault))) }
@@ -314,6 +319,7 @@ impl Slot {
             × (self.new.query ≡ self.old.query) }
     {
         pdus_in_parts();
+        self.titles = Some(Titles::of(&request));
         let answer = self.association.accept(request, called.verdict)?;
         if answer.close {
             return Ok(Taken {
@@ -362,11 +368,12 @@ fn associated_name(
 
 /// A step that answers nothing.
 fn nothing(alloc: Global, close: bool) -> Step
-    ensures { result ≡ record { messages = []; octets = []; close = close } }
+    ensures { result ≡ record { messages = []; octets = []; close = close; end = None } }
 {
     Step {
         messages: Listed::empty(alloc),
         octets: Listed::empty(alloc),
         close,
+        end: None,
     }
 }

@@ -8,7 +8,7 @@ mod NamedLookups
 mod OtherElements
 mod ImageCounts
 mod FirstValues
-mod AnswerParts
+mod SkippedStudies
 mod AnswerPages
 mod FromPlace
 mod Matching

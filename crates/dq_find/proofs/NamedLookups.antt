@@ -35,6 +35,7 @@ use Rattle.dq_tables.proofs.RecordLists.{listed_in_order, in_order_filter}
 use Rattle.dq_tables.proofs.RisingLists.{one_list}
 use Rattle.dq_archive.proofs.UniqueKeys.{only_named}
 use Rattle.dq_archive.proofs.OwnRecords.{value_from}
+use Rattle.dq_archive.proofs.PastRecords.{swapped}
 use Rattle.dq_find.specs.declared.level.Level.{Level}
 use Rattle.dq_find.specs.declared.level.Level.TheVariants.{Study, Series, Image}
 use Rattle.dq_find.specs.declared.query.Query.{Query}
@@ -53,11 +54,6 @@ use Rattle.dq_find.proofs.ChosenStudies.{Stay, fit_is_chosen}
 use Rattle.dq_find.proofs.Modalities.{IsInOrder, IsBefore}
 
 -- ---- the record that has a key
-
--- one test and then another
-swapped : (p q : Record → Bool) (rs : List Record) → filter p (filter q rs) ≡ filter q (filter p rs)
-swapped p q [] = refl
-swapped p q (r ∷ rs) = grind (arith, swapped p q rs)
 
 all_under : (level : Level) (keys : ElementList) (records : List Record)
     → records_asked records level keys ≡ filter (is_under level keys) (records_of (kind_of level) records)
@@ -227,13 +223,12 @@ pub named_candidates : (institution : List ℕ) (rows : List Row) (query : Query
     → IsStrictlySortedBy (λ (a b : Vec ℕ). octet_order a.items b.items) uids
     → ((value : List ℕ) → is_one_of_values value (octets_of_vectors uids) ≡ is_one_of_values value (own_values query))
     → looks_up query.level (own_values query) ≡ true
-    → named_rows institution (of institution rows) query (octets_of_vectors uids) ≡ map (row_of institution) (query_candidates (of institution rows) query)
+    → filter_map (named_record (of institution rows) query) (octets_of_vectors uids) ≡ query_candidates (of institution rows) query
 named_candidates institution rows query uids rising ordered same looked =
     let records = asked_records (of institution rows) query in
-    rows_are institution (of institution rows) query (octets_of_vectors uids)
-    ∙ ap (map (row_of institution)) (named_have_one institution rows query rising (octets_of_vectors uids) (in_octets uids ordered)
+    named_have_one institution rows query rising (octets_of_vectors uids) (in_octets uids ordered)
     ∙ (λ i. filter (λ (r : Record). same r.key i) records)
-    ∙ ap (λ (b : Bool). filter (λ (r : Record). if b then has_one_of (own_values query) r else is_asked query.level query.keys r) records) (sym looked))
+    ∙ ap (λ (b : Bool). filter (λ (r : Record). if b then has_one_of (own_values query) r else is_asked query.level query.keys r) records) (sym looked)
 
 -- a row that was looked up
 row_under : (institution : List ℕ) (level : Level) (keys : ElementList) (o : Option Record)

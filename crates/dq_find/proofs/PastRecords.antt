@@ -20,7 +20,7 @@ use Rattle.dq_tables.proofs.TakenStudies.{DaysAreInOrder}
 use Rattle.dq_archive.specs.declared.additions.Addition.{Addition}
 use Rattle.dq_archive.specs.Additions.{is_later, without}
 use Rattle.dq_find.specs.declared.query.Query.{Query}
-use Rattle.dq_find.specs.Candidates.{own_values, looks_up, query_candidates, named_record, named_rows}
+use Rattle.dq_find.specs.Candidates.{own_values, looks_up, query_candidates, named_record}
 use Rattle.dq_find.specs.Queries.{record_answer, answers_of_records}
 use Rattle.dq_find.proofs.RowAnswers.{row_answers}
 use Rattle.dq_find.proofs.AskedRecords.{EachAlone}
@@ -37,14 +37,22 @@ module _ (later : List Addition) (institution : List ℕ) (rows : List Row) wher
   unfolding without
   rows_then = of-filter institution stays (λ (r : Record). not (is_later later r)) (λ row same. refl) rows
 
+  -- the candidates that some UIDs name
   pub named_then : (query : Query) (uids : List (Vec ℕ)) → IsRising rows
       → IsStrictlySortedBy (λ (a b : Vec ℕ). octet_order a.items b.items) uids
       → ((value : List ℕ) → is_one_of_values value (octets_of_vectors uids) ≡ is_one_of_values value (own_values query))
       → looks_up query.level (own_values query) ≡ true
-      → named_rows institution was query (octets_of_vectors uids) ≡ map (row_of institution) (query_candidates was query)
+      → filter_map (named_record was query) (octets_of_vectors uids) ≡ query_candidates was query
   named_then query uids rising ordered same looked =
-      subst (λ (records : List Record). named_rows institution records query (octets_of_vectors uids) ≡ map (row_of institution) (query_candidates records query))
+      subst (λ (records : List Record). filter_map (named_record records query) (octets_of_vectors uids) ≡ query_candidates records query)
       rows_then (named_candidates institution (filter stays rows) query uids (IsRising-filter stays rows rising) ordered same looked)
+
+  -- and that are named by their own keys
+  pub named_again_then : (query : Query) → IsRising rows
+      → filter_map (named_record was query) (map (λ (r : Record). r.key) (query_candidates was query)) ≡ query_candidates was query
+  named_again_then query rising =
+      subst (λ (records : List Record). filter_map (named_record records query) (map (λ (r : Record). r.key) (query_candidates records query)) ≡ query_candidates records query)
+      rows_then (named_again institution (filter stays rows) query (IsRising-filter stays rows rising))
 
   -- the studies are in order
   pub ordered_then : (kind : Kind) → IsRising rows → AreInOrder (records_of kind was)
@@ -60,13 +68,11 @@ module _ (later : List Addition) (institution : List ℕ) (rows : List Row) wher
       (answered_of_candidates institution (filter stays rows) called query (IsRising-filter stays rows sound.rising)
       (each_filtered (λ (row : Row). is_own_row row ≡ true) stays rows sound.own) facts alone days)
 
-  -- the answers of the records that are named by their keys again
-  pub named_then_answered : (called : List ℕ) (query : Query) → IsSound rows → IsDataSet query.keys → EachAlone query.keys → DaysAreInOrder
-      → filter_map (record_answer was called query) (filter_map (named_record was query) (map (λ (r : Record). r.key) (query_candidates was query)))
-      ≡ answers_of_records was called query
-  named_then_answered called query sound facts alone days =
-      ap (filter_map (record_answer was called query))
-      (subst (λ (records : List Record). filter_map (named_record records query) (map (λ (r : Record). r.key) (query_candidates records query)) ≡ query_candidates records query)
-      rows_then (named_again institution (filter stays rows) query (IsRising-filter stays rows sound.rising)))
+  -- the answers of those that some keys name
+  pub named_then_answered : (called : List ℕ) (query : Query) (keys : List (List ℕ)) → filter_map (named_record was query) keys ≡ query_candidates was query
+      → IsSound rows → IsDataSet query.keys → EachAlone query.keys → DaysAreInOrder
+      → filter_map (record_answer was called query) (filter_map (named_record was query) keys) ≡ answers_of_records was called query
+  named_then_answered called query keys named sound facts alone days =
+      ap (filter_map (record_answer was called query)) named
       ∙ sym (given_of_each (λ (row : Row). record_answer was called query (record_of row)) (row_of institution) (query_candidates was query))
       ∙ answered_then called query sound facts alone days

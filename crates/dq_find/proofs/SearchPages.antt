@@ -25,7 +25,7 @@ use Rattle.dq_find.specs.OpenSearches.{studies_behind, candidates_left, left_of,
 use Rattle.dq_find.proofs.RowAnswers.{row_answers}
 use Rattle.dq_find.proofs.FromPlace.{past_all}
 
-abbrev behind : List ℕ → Record → Bool
+abbrev pub behind : List ℕ → Record → Bool
 behind key r = is_gt (octet_order r.key key)
 
 -- ---- in order, those behind a record are those after it
@@ -39,7 +39,7 @@ later_behind key rs after =
     greater : (a b : List ℕ) → octet_order a b ≡ Less → octet_order b a ≡ Greater
     greater a b less = nat_list_cmp_total.antisymm b a ∙ ap ordering_reverse less
 
-split_behind : (before : List Record) (r : Record) (later : List Record) → AreInOrder (before ++ (r ∷ later)) → filter (behind r.key) (before ++ (r ∷ later)) ≡ later
+pub split_behind : (before : List Record) (r : Record) (later : List Record) → AreInOrder (before ++ (r ∷ later)) → filter (behind r.key) (before ++ (r ∷ later)) ≡ later
 split_behind [] r later ordered = rw (tied_itself nat_list_cmp_total r.key) (later_behind r.key later ordered.0)
 split_behind (x ∷ before) r later ordered =
     rw (each_middle (λ (s : Record). octet_order x.key s.key ≡ Less) before r later ordered.0) (split_behind before r later ordered.1)

@@ -1,5 +1,6 @@
 -- The answers to a query, found as they are asked for.
-use Rattle.std.specs.Prelude.{◌≡◌, ◌<◌, ◌≤◌, ◌⊎◌, ℕ, List, [], ◌++◌, length, Result, Ok, Err, IfOk, OnOk}
+use Rattle.std.specs.Prelude.{◌≡◌, ◌+◌, ◌≤◌, ◌⊎◌, ℕ, List, [], ◌++◌, length, Option, IsSomeAnd, Result, Ok, Err, IfOk, OnOk}
+use Rattle.std.specs.Option.{ForSome}
 use Rattle.dq_dataset.specs.Tree.{ElementList}
 use Rattle.dq_dimse.specs.Statuses.{success}
 use Rattle.dq_match.specs.Answers.{refused_with}
@@ -36,11 +37,15 @@ pub record BeginsAt {T : Type 0} (state : T → State) (old new : Past T) (calle
   pub found : (state_in state new).honest → IfOk result (λ begun.
       found_then begun (records_in state old) ≡ found_by (records_in state old) called asked)
 
--- So many answers were found, or all: the greatest number stands for all.
-abbrev pub HasFound : ℕ → PartialAnswers → Type 0
+-- At least so many answers were found, or none is left to find. Without a number, none is left.
+abbrev pub HasFound : Option ℕ → PartialAnswers → Type 0
 HasFound number lazy =
-    ((number < 18446744073709551615) × (number ≤ length lazy.found))
-    ⊎ ((records : List Record) → left_of lazy.search records ≡ [])
+    IsSomeAnd number (λ n. n ≤ length lazy.found) ⊎ ((records : List Record) → left_of lazy.search records ≡ [])
+
+-- How many answers have to be found for a page: its offset and its length together. None stands for all, which always
+-- suffice.
+abbrev pub IsNeeded : ℕ → Option ℕ → Option ℕ → Type 0
+IsNeeded from most number = ForSome number (λ n. IsSomeAnd most (λ some. n ≡ from + some))
 
 -- More was looked at, and the answers are those that they were.
 pub record LooksFurther {T : Type 0} (state : T → State) (old new : Past T) (most : ℕ)
@@ -54,7 +59,7 @@ pub record LooksFurther {T : Type 0} (state : T → State) (old new : Past T) (m
       → OnOk result (LookedAt most (records_in state old) before.search after.search)
 
 -- So many answers were found, or all, and the answers are those that they were.
-pub record Finds {T : Type 0} (state : T → State) (old new : Past T) (number : ℕ)
+pub record Finds {T : Type 0} (state : T → State) (old new : Past T) (number : Option ℕ)
     (before after : PartialAnswers) (result : Result (Unit {0}) TableFault) : Type 0 where
   pub same : IsSame old new
   pub reads : Reads (state_in state old) (state_in state new) result

@@ -15,7 +15,7 @@ use Rattle.dq_find.specs.declared.open_search.SearchCursor.{SearchCursor}
 use Rattle.dq_find.specs.declared.open_search.SearchCursor.TheVariants.{Studies, Named, Nothing}
 use Rattle.dq_find.specs.declared.open_search.OpenSearch.{OpenSearch}
 use Rattle.dq_find.specs.declared.query.Query.{Query}
-use Rattle.dq_find.specs.Candidates.{named_record}
+use Rattle.dq_find.specs.Candidates.{named_record, query_candidates}
 use Rattle.dq_find.specs.Queries.{record_answer, answers_of_records}
 
 -- all studies, or those with keys behind one
@@ -58,6 +58,14 @@ left_after most rows (Studies behind) = studies_after (last_key rows)
 left_after most rows (Named keys from) = Named keys (from + length (take most (drop from keys)))
 left_after most rows Nothing = Nothing
 
+-- These keys, in their order, name the records that a query looks at. A key that no record has names none.
+pub record NamesCandidates {T : Type 0} (state : T → State) (old new : Past T) (query : Query)
+    (result : Result (List (List ℕ)) TableFault) : Type 0 where
+  pub same : IsSame old new
+  pub reads : Reads (state_in state old) (state_in state new) result
+  pub named : (state_in state new).honest → IfOk result (λ keys.
+      filter_map (named_record (records_in state old) query) keys ≡ query_candidates (records_in state old) query)
+
 -- A search began: it asks what it was given, and all answers are left.
 pub record Begins {T : Type 0} (state : T → State) (old new : Past T) (called : List ℕ)
     (query : Query) (result : Result OpenSearch TableFault) : Type 0 where
@@ -66,6 +74,16 @@ pub record Begins {T : Type 0} (state : T → State) (old new : Past T) (called 
   pub asked : IfOk result (λ search. (search.called ≡ called) × (search.query ≡ query))
   pub all : (state_in state new).honest → IfOk result (λ search.
       left_of search (records_in state old) ≡ answers_of_records (records_in state old) called query)
+
+-- Some of the first answers were passed over, and the result says how many of the count are still to be. The query
+-- stays.
+pub record Skips {T : Type 0} (state : T → State) (old new : Past T) (count : ℕ)
+    (before after : OpenSearch) (result : Result ℕ TableFault) : Type 0 where
+  pub same : IsSame old new
+  pub reads : Reads (state_in state old) (state_in state new) result
+  pub asked : (after.called ≡ before.called) × (after.query ≡ before.query)
+  pub passed : (state_in state new).honest → IfOk result (λ more.
+      drop more (left_of after (records_in state old)) ≡ drop count (left_of before (records_in state old)))
 
 -- So many of the records that were left were looked at, or all of them, and the others are left.
 abbrev pub LookedAt : ℕ → List Record → OpenSearch → OpenSearch → Type 0

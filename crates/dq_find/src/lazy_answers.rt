@@ -1,26 +1,33 @@
 //! The answers to a query, found as they are asked for.
 ghost use Rattle.std.specs.Prelude.{◌≡◌, ◌<◌, ◌++◌, ◌∷◌, [], true, length, IfOk, OnOk, MatchOption};
+ghost use Rattle.dq_dimse.specs.Statuses.{success};
 ghost use Rattle.dq_dimse.specs.Holding.{plain_message};
+ghost use Rattle.dq_match.specs.Answers.{found_part};
 ghost use Rattle.dq_match.specs.Identifiers.{HasKnownTags};
+ghost use Rattle.dq_match.specs.Parts.{part_of, found_of};
 ghost use Rattle.dq_tables.specs.TableStates.{Reads};
 ghost use Rattle.dq_tables.specs.Rows.{of};
-ghost use Rattle.dq_find.specs.Queries.{query_outcome};
-ghost use Rattle.dq_find.specs.LazyAnswers.{BeginsAt, LooksFurther, Finds, HasFound, found_then};
+ghost use Rattle.dq_tables.specs.ServiceEffects.{Serves};
+ghost use Rattle.dq_archive.specs.PastArchives.{QueriesOnly};
+ghost use Rattle.dq_find.specs.Queries.{found_by, query_outcome, keys_outcome};
+ghost use Rattle.dq_find.specs.LazyAnswers.{BeginsAt, LooksFurther, Finds, HasFound, IsNeeded, found_then};
 
 use crate::open_search::OpenSearch;
-use crate::query::{Query, query_of};
+use crate::query::{Query, query_at, query_of};
 use dq_archive::Past;
 use dq_config::Institution;
 use dq_dataset::{DataSet, Syntax};
 use dq_dimse::Message;
+use dq_dimse::status::SUCCESS;
 use dq_list::Listed;
+use dq_match::Found;
 use dq_tables::{TableFault, Tables};
 use std::alloc::{AllocError, Global};
 use std::collections::VecDeque;
 use std::marker::Model;
 
 /// So many records are looked at in one call of the tables, at most.
-const MOST_AT_ONCE: usize = 4096;
+const MOST_AT_ONCE: usize = 256;
 
 /// The answers to a query: those that were found and not given yet, and the search for the others.
 #[derive(Drop)]
@@ -66,6 +73,92 @@ pub fn begin_find<T: Tables>(
     let asked = query_of(archive.alloc, message, syntax)?;
     let found = begin_at(&mut archive, called, asked)?;
     Ok(found)
+}
+
+/// Answers a Study Root C-FIND from the records of an institution: of the query's level those that
+/// fit, in order of the octets of their unique key, each with what the keys ask for. It is refused
+/// with status A700 where the identifier is too long, C000 where it is unreadable, and A900 where
+/// it names no level, lacks a unique key of a level above, or has values that are not well formed
+/// (PS3.4 section C.4.1.1.4).
+#[tactic(auto, using(dq_tables::proofs::TableCalls::serves_read), unfolding(crate::specs::Queries::query_outcome))]
+pub fn find<T: Tables>(
+    tables: &mut T,
+    institution: &Institution,
+    called: &[u8],
+    message: &Message,
+    syntax: Syntax,
+) -> Result<Found, TableFault>
+    ensures { Serves (T.state tables.old) (T.state tables.new) institution.now.name
+        (λ records. (query_outcome records called.now (plain_message message.now) syntax, [])) result }
+{
+    let mut past = Past::new(tables, institution, &[]);
+    let asked = query_of(past.alloc, message, syntax)?;
+    let found = answers_to(&mut past, called, asked, 0, None)?;
+    Ok(found)
+}
+
+/// Answers keys that no message brought, an identifier with its Query/Retrieve Level, as `find`
+/// answers the identifier of a message: the answers from a place on, at most so many. Nobody called a
+/// title, so they tell an empty one. Nothing is changed.
+#[tactic(auto, unfolding(crate::specs::Queries::keys_outcome))]
+pub fn find_by_keys<T: Tables>(
+    tables: &mut T,
+    institution: &Institution,
+    identifier: &DataSet,
+    from: usize,
+    most: usize,
+) -> Result<Found, TableFault>
+    ensures found { (T.state tables.new).honest → IfOk result (λ found. found ≡ found_part from most
+        (keys_outcome (of institution.now.name (T.state tables.old).rows) [] identifier.now)) }
+    ensures reads { Reads (T.state tables.old) (T.state tables.new) result }
+{
+    let mut kept = Past::new(tables, institution, &[]);
+    let asked = query_at(kept.alloc, identifier)?;
+    answers_to(&mut kept, &[], asked, from, Some(most))
+}
+
+/// The answers to a query from a place on, at most so many where there is a most, or the status that
+/// refuses it.
+fn answers_to<T: Tables>(
+    archive: &mut Past<'_, T>,
+    called: &[u8],
+    asked: Result<Query, u16>,
+    from: usize,
+    most: Option<usize>,
+) -> Result<Found, TableFault>
+    requires { IfOk asked (λ query. HasKnownTags query.keys) }
+    ensures { QueriesOnly T.state archive.old archive.new
+        (λ records. found_of from most (found_by records called.now asked)) result }
+{
+    let query = match asked {
+        Ok(query) => query,
+        Err(status) => return Ok(Found::refused(archive.alloc, status)),
+    };
+    let mut search = OpenSearch::begin(archive, called, query)?;
+    let from = search.skip(archive, from)?;
+    let mut lazy = LazyAnswers::new(archive.alloc, search);
+    lazy.find(archive, number_to_find(from, most))?;
+    Ok(lazy.into_part(from, most))
+}
+
+/// How many answers have to be found for those from a place on, at most so many where there is a most;
+/// all, where there is no such number.
+fn number_to_find(from: usize, most: Option<usize>) -> Option<usize>
+    ensures { IsNeeded from most result }
+{
+    from.checked_add(most?)
+}
+
+/// The part of some answers from a place on, at most so many where there is a most.
+fn part(mut answers: Vec<DataSet>, from: usize, most: Option<usize>) -> Listed<DataSet>
+    ensures { result ≡ part_of from most answers.items }
+{
+    let before = from.min(answers.len());
+    let _ = answers.drain(..before);
+    if let Some(most) = most {
+        answers.truncate(most);
+    }
+    Listed::from_inner(answers)
 }
 
 /// Begins to answer a query, unless it is refused.
@@ -122,16 +215,16 @@ impl LazyAnswers {
         Ok(())
     }
 
-    /// Looks for answers until so many were found that are not given, or all. The greatest number
-    /// stands for all.
+    /// Looks for answers until so many were found that are not given, or all; all where there is no
+    /// number.
     pub fn find<T: Tables>(
         &mut self,
         archive: &mut Past<'_, T>,
-        number: usize,
+        number: Option<usize>,
     ) -> Result<(), TableFault>
         ensures { Finds T.state archive.old archive.new number self.old self.new result }
     {
-        let mut most = number.min(MOST_AT_ONCE).max(1);
+        let mut most = number.unwrap_or(MOST_AT_ONCE).min(MOST_AT_ONCE).max(1);
         for _ in 0..u64::MAX {
             if self.has(number) {
                 return Ok(());
@@ -143,10 +236,29 @@ impl LazyAnswers {
     }
 
     /// Whether so many answers were found, or all that there are.
-    fn has(&self, number: usize) -> bool
+    fn has(&self, number: Option<usize>) -> bool
         ensures { result ≡ true → HasFound number self.now }
     {
-        number < usize::MAX && number <= self.found.len() || self.search.is_done()
+        match number {
+            Some(number) => number <= self.found.len() || self.search.is_done(),
+            None => self.search.is_done(),
+        }
+    }
+
+    /// The answers that were found from a place on, at most so many where there is a most.
+    fn into_part(self, from: usize, most: Option<usize>) -> Found
+        ensures { result ≡ record {
+          status = success;
+          optional = self.search.query.optional;
+          answers = part_of from most self.found;
+        } }
+    {
+        let optional = self.optional();
+        Found {
+            status: SUCCESS,
+            optional,
+            answers: part(self.found.into_vec(), from, most),
+        }
     }
 
     /// The first of the answers that were found; after it the others are left.

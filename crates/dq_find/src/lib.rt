@@ -13,9 +13,8 @@ mod search;
 mod study_choice;
 mod texts;
 
-pub use lazy_answers::{LazyAnswers, begin_find};
+pub use lazy_answers::{LazyAnswers, begin_find, find, find_by_keys};
 pub use level::Level;
 pub use open_search::OpenSearch;
 pub use pages::Pages;
 pub use query::Query;
-pub use search::{find, find_by_keys};

@@ -6,9 +6,10 @@ ghost use Rattle.dq_tables.specs.declared.row.Row.{Row as TheRow};
 ghost use Rattle.dq_tables.specs.Rows.{Record, row_of};
 ghost use Rattle.dq_archive.specs.PastArchives.{QueriesOnly};
 ghost use Rattle.dq_find.specs.Candidates.{named_rows, query_candidates};
-ghost use Rattle.dq_find.specs.OpenSearches.{Begins, TakesPage, next_candidates, left_after, left_of, last_key};
+ghost use Rattle.dq_find.specs.OpenSearches.{Begins, Skips, TakesPage, next_candidates, left_after, left_of, last_key};
 ghost use Rattle.dq_find.specs.Queries.{record_answer};
 ghost use Rattle.dq_find.specs.declared.level.Level.TheVariants.{Study};
+ghost use Rattle.dq_find.specs.declared.open_search.SearchCursor.TheVariants.{Studies};
 
 use crate::computed_keys::octets_at;
 use crate::level::Level;
@@ -18,8 +19,8 @@ use crate::study_choice::choice_in;
 use dq_archive::Past;
 use dq_dataset::DataSet;
 use dq_list::Listed;
-use dq_match::PreparedKeys;
-use dq_match::laws::keys_are_met_alone_and_as_a_period;
+use dq_match::laws::{keys_are_met_alone_and_as_a_period, universal_keys_are_met};
+use dq_match::{PreparedKeys, asks_nothing};
 use dq_tables::laws::{day_numbers_are_in_order, honest_rows_are_sound};
 use dq_tables::{Kind, Row, TableFault, Tables};
 use std::alloc::{AllocError, Global};
@@ -61,17 +62,6 @@ fn last_key(rows: Listed<Row>) -> Option<Listed<u8>>
     Some(last.key)
 }
 
-/// The keys of some rows.
-fn keys_of(alloc: Global, rows: Listed<Row>) -> Result<Listed<Listed<u8>>, AllocError>
-    ensures { IfOk result (λ keys. keys ≡ map (λ (row : TheRow). row.key) rows) }
-{
-    let mut keys = Listed::empty(alloc);
-    for row in rows.into_inner() {
-        keys.push(row.key)?;
-    }
-    Ok(keys)
-}
-
 /// Whether a query looks at all studies: it names none, and asks nothing of the patient and the day.
 fn scans_studies(alloc: Global, query: &Query) -> Result<bool, AllocError>
     ensures { IfOk result (λ scans. scans ≡ true → query.now.level ≡ Study) }
@@ -93,6 +83,17 @@ fn scans_studies(alloc: Global, query: &Query) -> Result<bool, AllocError>
 }
 
 impl SearchCursor {
+    /// Whether all studies are left.
+    fn is_at_first_study(&self) -> bool
+        ensures { result ≡ true → self.now ≡ Studies None }
+    {
+        match self {
+            SearchCursor::Studies(None) => true,
+            SearchCursor::Studies(Some(_)) | SearchCursor::Named(_, _) | SearchCursor::Nothing =>
+                false,
+        }
+    }
+
     /// The rows that are looked at next, at most so many.
     fn next_rows<T: Tables>(
         &self,
@@ -164,13 +165,31 @@ impl OpenSearch {
             query: &query,
             prepared: &prepared,
         };
-        let rows = search.rows(archive)?;
-        let keys = keys_of(archive.alloc, rows)?;
+        let keys = search.keys(archive)?;
         Ok(OpenSearch {
             called,
             query,
             cursor: SearchCursor::Named(keys, 0),
         })
+    }
+
+    /// Passes over the first answers, so many, with one look, if each study is an answer since nothing is
+    /// asked of them; otherwise over none. Returns how many are still to be passed over.
+    pub(crate) fn skip<T: Tables>(
+        &mut self,
+        archive: &mut Past<'_, T>,
+        count: usize,
+    ) -> Result<usize, TableFault>
+        ensures { Skips T.state archive.old archive.new count self.old self.new result }
+    {
+        honest_rows_are_sound::<T>();
+        universal_keys_are_met();
+        if count == 0 || !self.cursor.is_at_first_study() || !asks_nothing(&self.query.keys) {
+            return Ok(count);
+        }
+        let rows = archive.rows_from(Kind::Study, count - 1, 1)?;
+        self.cursor.pass(rows, 1);
+        Ok(0)
     }
 
     /// Looks at the next records, at most so many, and takes their answers.
@@ -191,7 +210,7 @@ impl OpenSearch {
             prepared: &prepared,
         };
         let rows = self.cursor.next_rows(archive, &search, most)?;
-        let page = search.answers_of(archive, rows.as_slice(), 0, None)?;
+        let page = search.answers_of(archive, rows.as_slice())?;
         self.cursor.pass(rows, most);
         Ok(page)
     }

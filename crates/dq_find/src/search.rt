@@ -1,39 +1,30 @@
 //! The answers to a query (PS3.4 sections C.4.1.3 and C.6.2).
-ghost use Rattle.std.specs.Prelude.{◌≡◌, true, false, [], IfOk, List, Some, None, map, filter, option_map};
+ghost use Rattle.std.specs.Prelude.{◌≡◌, false, IfOk, List, None, map, filter, option_map};
 ghost use Rattle.std.specs.List.{filter_map};
 ghost use Rattle.dq_list.specs.Octets.{octets_of_vectors};
-ghost use Rattle.dq_dimse.specs.Holding.{plain_message};
-ghost use Rattle.dq_match.specs.Answers.{found_part};
-ghost use Rattle.dq_match.specs.Parts.{part_of, found_of};
-ghost use Rattle.dq_match.specs.Universal.{asks_nothing};
 ghost use Rattle.dq_match.specs.Identifiers.{HasKnownTags};
-ghost use Rattle.dq_tables.specs.TableStates.{Reads};
-ghost use Rattle.dq_tables.specs.Rows.{Record, of, record_of, row_of};
-ghost use Rattle.dq_tables.specs.ServiceEffects.{Serves};
+ghost use Rattle.dq_tables.specs.Rows.{Record, record_of, row_of};
 ghost use Rattle.dq_archive.specs.PastArchives.{QueriesOnly};
-ghost use Rattle.dq_find.specs.declared.level.Level.TheVariants.{Study};
 ghost use Rattle.dq_find.specs.StudyChoice.{is_asked};
-ghost use Rattle.dq_find.specs.Candidates.{looks_up, query_candidates, is_under, named_record, named_rows, looked_up};
+ghost use Rattle.dq_find.specs.Candidates.{looks_up, is_under, named_record, named_rows, looked_up};
+ghost use Rattle.dq_find.specs.OpenSearches.{NamesCandidates};
 ghost use Rattle.dq_find.specs.ComputedKeys.{computed_keys};
 ghost use Rattle.dq_value.specs.Parts.{element_values};
 ghost use Rattle.dq_vr.specs.declared.Vr.TheVariants.{UI};
-ghost use Rattle.dq_find.specs.Queries.{about_answers, key_above, asks_computed, asked_records, answer_if, record_answer, answers_of_records, found_by, query_outcome, keys_outcome};
+ghost use Rattle.dq_find.specs.Queries.{about_answers, key_above, asks_computed, asked_records, answer_if, record_answer};
 ghost use Rattle.dq_tables.specs.declared.row.Row.{Row as TheRow};
 
 use crate::computed_keys::{octets_at, series_computed, study_computed};
 use crate::level::Level;
-use crate::query::{Query, query_at, query_of};
+use crate::query::Query;
 use crate::study_choice::choice_in;
 use crate::texts::{Text, elements};
 use dq_archive::Past;
-use dq_config::Institution;
-use dq_dataset::{DataSet, Syntax};
-use dq_dimse::Message;
-use dq_dimse::status::SUCCESS;
+use dq_dataset::DataSet;
 use dq_list::Listed;
-use dq_match::laws::{keys_are_met_alone_and_as_a_period, universal_keys_are_met};
-use dq_match::{Found, PageCollector, PreparedKeys, asks_nothing, in_order, shown};
-use dq_tables::laws::{day_numbers_are_in_order, honest_rows_are_sound};
+use dq_match::laws::keys_are_met_alone_and_as_a_period;
+use dq_match::{PreparedKeys, in_order, shown};
+use dq_tables::laws::honest_rows_are_sound;
 use dq_tables::{Kind, Row, TableFault, Tables, uid_at};
 use dq_value::{stripped, values};
 use dq_vr::{Tag, Vr, tags};
@@ -95,6 +86,28 @@ fn key_above(keys: &DataSet, tag: Tag) -> &[u8]
         Some(uid) => uid,
         None => &[],
     }
+}
+
+/// Some keys, in their order.
+fn key_list(alloc: Global, mut uids: BTreeSet<Vec<u8>>) -> Result<Listed<Listed<u8>>, AllocError>
+    ensures { IfOk result (λ keys. keys ≡ octets_of_vectors uids.keys) }
+{
+    let mut keys = Listed::empty(alloc);
+    while let Some(uid) = uids.pop_first() {
+        keys.push(Listed::from_inner(uid))?;
+    }
+    Ok(keys)
+}
+
+/// The keys of some rows.
+fn keys_of(alloc: Global, rows: Listed<Row>) -> Result<Listed<Listed<u8>>, AllocError>
+    ensures { IfOk result (λ keys. keys ≡ map (λ (row : TheRow). row.key) rows) }
+{
+    let mut keys = Listed::empty(alloc);
+    for row in rows.into_inner() {
+        keys.push(row.key)?;
+    }
+    Ok(keys)
 }
 
 /// A query with its keys, read once for all records, and the title that was called.
@@ -167,26 +180,6 @@ impl Search<'_> {
     }
 
     /// The records of the level with some unique keys, in the order of these.
-    fn rows_named<T: Tables>(
-        &self,
-        archive: &mut Past<'_, T>,
-        mut uids: BTreeSet<Vec<u8>>,
-    ) -> Result<Listed<Row>, TableFault>
-        ensures { QueriesOnly T.state archive.old archive.new (λ records.
-            named_rows archive.old.institution.now.name records
-            self.now.query.now (octets_of_vectors uids.keys)) result }
-    {
-        let mut rows = Listed::empty(archive.alloc);
-        while let Some(uid) = uids.pop_first() {
-            let row = self.row_named(archive, uid.as_slice())?;
-            if let Some(row) = row {
-                rows.push(row)?;
-            }
-        }
-        Ok(rows)
-    }
-
-    /// The records of the level with some keys, in the order of these, as they stand in a list.
     pub(crate) fn rows_with<T: Tables>(
         &self,
         archive: &mut Past<'_, T>,
@@ -206,23 +199,23 @@ impl Search<'_> {
         Ok(rows)
     }
 
-    /// The records that are looked at: where the query gives its level's own unique key values, no
-    /// record without one of them can match, and no study that the choice does not take.
-    pub(crate) fn rows<T: Tables>(
+    /// The keys of the records that are looked at. Where the query gives its level's own unique key
+    /// values it is these, since no record without one of them can match; else those of the records that
+    /// the choice takes.
+    pub(crate) fn keys<T: Tables>(
         &self,
         archive: &mut Past<'_, T>,
-    ) -> Result<Listed<Row>, TableFault>
-        ensures { QueriesOnly T.state archive.old archive.new (λ records.
-            map (row_of archive.old.institution.now.name)
-            (query_candidates records self.now.query.now)) result }
+    ) -> Result<Listed<Listed<u8>>, TableFault>
+        ensures { NamesCandidates T.state archive.old archive.new self.now.query.now result }
     {
         honest_rows_are_sound::<T>();
         let values = octets_at(&self.query.keys, self.query.level.unique_key());
-        if !looks_up(self.query.level, values) {
-            return self.asked_rows(archive);
+        if looks_up(self.query.level, values) {
+            let uids = in_order(archive.alloc, Vr::UI, values)?;
+            return Ok(key_list(archive.alloc, uids)?);
         }
-        let uids = in_order(archive.alloc, Vr::UI, values)?;
-        self.rows_named(archive, uids)
+        let rows = self.asked_rows(archive)?;
+        Ok(keys_of(archive.alloc, rows)?)
     }
 
     /// Returns the computed elements of the record of the level with the key.
@@ -302,61 +295,27 @@ impl Search<'_> {
         Ok(self.answer(archive.alloc, about, &held)?)
     }
 
-    /// The answers that some rows give, in their order, from a place on, at most so many where there
-    /// is a most. No row is looked at behind the last of them.
+    /// The answers that some rows give, in their order.
     pub(crate) fn answers_of<T: Tables>(
         &self,
         archive: &mut Past<'_, T>,
         rows: &[Row],
-        from: usize,
-        most: Option<usize>,
     ) -> Result<Listed<DataSet>, TableFault>
         requires known { HasKnownTags self.now.query.now.keys }
         requires prepared { self.now.prepared.now ≡ self.now.query.now.keys }
-        ensures { QueriesOnly T.state archive.old archive.new (λ records. part_of from most (filter_map
+        ensures { QueriesOnly T.state archive.old archive.new (λ records. filter_map
             (λ (row : TheRow). record_answer records self.now.called.now self.now.query.now
-            (record_of row)) rows.now)) result }
+            (record_of row)) rows.now) result }
     {
         let about = about_answers(archive.alloc, self.called, self.query.level)?;
-        let mut part = PageCollector::new(archive.alloc, from, most);
+        let mut answers = Listed::empty(archive.alloc);
         for row in rows {
-            if part.is_full() {
-                return Ok(part.into_answers());
-            }
             let answer = self.answer_of(archive, &about, row)?;
-            part.take(answer)?;
-        }
-        Ok(part.into_answers())
-    }
-
-    /// The answers from a place on, at most so many where there is a most. Where studies are asked
-    /// nothing each of them answers, so no other is read.
-    fn part<T: Tables>(
-        &self,
-        archive: &mut Past<'_, T>,
-        from: usize,
-        most: Option<usize>,
-    ) -> Result<Listed<DataSet>, TableFault>
-        requires known { HasKnownTags self.now.query.now.keys }
-        requires prepared { self.now.prepared.now ≡ self.now.query.now.keys }
-        ensures { QueriesOnly T.state archive.old archive.new (λ records. part_of from most
-            (answers_of_records records self.now.called.now self.now.query.now)) result }
-    {
-        universal_keys_are_met();
-        self.query.keys.has_facts();
-        honest_rows_are_sound::<T>();
-        day_numbers_are_in_order();
-        keys_are_met_alone_and_as_a_period();
-        match most {
-            Some(most) if takes_all_studies(self.query) => {
-                let rows = archive.rows_from(Kind::Study, from, most)?;
-                self.answers_of(archive, rows.as_slice(), 0, None)
-            }
-            _ => {
-                let rows = self.rows(archive)?;
-                self.answers_of(archive, rows.as_slice(), from, most)
+            if let Some(answer) = answer {
+                answers.push(answer)?;
             }
         }
+        Ok(answers)
     }
 }
 
@@ -375,91 +334,8 @@ pub(crate) fn looks_up(level: Level, octets: &[u8]) -> bool
     first != b"*".as_slice()
 }
 
-/// Whether a query is for studies, and asks nothing of them.
-fn takes_all_studies(query: &Query) -> bool
-    ensures { result ≡ true → (query.now.level ≡ Study) × (asks_nothing query.now.keys ≡ true) }
-{
-    match query.level {
-        Level::Study => asks_nothing(&query.keys),
-        Level::Series | Level::Image => false,
-    }
-}
-
 fn asks_computed(query: &Query) -> bool
     ensures { result ≡ asks_computed query.now }
 {
     COMPUTED.iter().any(|tag| query.keys.get(*tag).is_some())
-}
-
-/// Answers a Study Root C-FIND from the records of an institution: of the query's level those that
-/// fit, in order of the octets of their unique key, each with what the keys ask for. It is refused
-/// with status A700 where the identifier is too long, C000 where it is unreadable, and A900 where
-/// it names no level, lacks a unique key of a level above, or has values that are not well formed
-/// (PS3.4 section C.4.1.1.4).
-#[tactic(auto, using(dq_tables::proofs::TableCalls::serves_read), unfolding(crate::specs::Queries::query_outcome))]
-pub fn find<T: Tables>(
-    tables: &mut T,
-    institution: &Institution,
-    called: &[u8],
-    message: &Message,
-    syntax: Syntax,
-) -> Result<Found, TableFault>
-    ensures { Serves (T.state tables.old) (T.state tables.new) institution.now.name
-        (λ records. (query_outcome records called.now (plain_message message.now) syntax, [])) result }
-{
-    let mut archive = Past::new(tables, institution, &[]);
-    let asked = query_of(archive.alloc, message, syntax)?;
-    let found = answers_to(&mut archive, called, asked, 0, None)?;
-    Ok(found)
-}
-
-/// Answers keys that no message brought, an identifier with its Query/Retrieve Level, as `find`
-/// answers the identifier of a message: the answers from a place on, at most so many. Nobody called a
-/// title, so they tell an empty one. Nothing is changed.
-#[tactic(auto, unfolding(crate::specs::Queries::keys_outcome))]
-pub fn find_by_keys<T: Tables>(
-    tables: &mut T,
-    institution: &Institution,
-    identifier: &DataSet,
-    from: usize,
-    most: usize,
-) -> Result<Found, TableFault>
-    ensures found { (T.state tables.new).honest → IfOk result (λ found. found ≡ found_part from most
-        (keys_outcome (of institution.now.name (T.state tables.old).rows) [] identifier.now)) }
-    ensures reads { Reads (T.state tables.old) (T.state tables.new) result }
-{
-    let mut kept = Past::new(tables, institution, &[]);
-    let asked = query_at(kept.alloc, identifier)?;
-    answers_to(&mut kept, &[], asked, from, Some(most))
-}
-
-/// The answers to a query from a place on, at most so many where there is a most, or the status that
-/// refuses it.
-fn answers_to<T: Tables>(
-    archive: &mut Past<'_, T>,
-    called: &[u8],
-    asked: Result<Query, u16>,
-    from: usize,
-    most: Option<usize>,
-) -> Result<Found, TableFault>
-    requires { IfOk asked (λ query. HasKnownTags query.keys) }
-    ensures { QueriesOnly T.state archive.old archive.new
-        (λ records. found_of from most (found_by records called.now asked)) result }
-{
-    let query = match asked {
-        Ok(query) => query,
-        Err(status) => return Ok(Found::refused(archive.alloc, status)),
-    };
-    let prepared = PreparedKeys::of(archive.alloc, &query.keys)?;
-    let search = Search {
-        called,
-        query: &query,
-        prepared: &prepared,
-    };
-    let answers = search.part(archive, from, most)?;
-    Ok(Found {
-        status: SUCCESS,
-        optional: query.optional,
-        answers,
-    })
 }

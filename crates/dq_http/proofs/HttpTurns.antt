@@ -1,30 +1,11 @@
 -- How the turns of all connections went, one after the other.
-use Rattle.std.proofs.Common.{◌≡◌, ◌<◌, ◌≤◌, ◌+◌, ◌++◌, ◌∷◌, ◌∙◌, ℕ, List, [], Option, length, length-append, append_assoc, append-nil, get_or, set, inl, inr, arith, refl, sym, ap}
+use Rattle.std.proofs.Common.{◌≡◌, ◌<◌, ◌≤◌, ◌+◌, ◌++◌, ◌∷◌, ◌∙◌, ℕ, List, [], length, length-append, append_assoc, append-nil, get_or, set, inl, inr, arith, refl, sym, ap}
 use Rattle.std.specs.List.{remove}
-use Rattle.std.specs.declared.net.socket_addr.SocketAddr.{SocketAddr}
 use Rattle.dq_wires.proofs.TurnSequences.{get-at, set-at, remove-at}
 use Rattle.dq_web.specs.declared.guard.Guard.{Guard}
 use Rattle.dq_http.specs.declared.http_connection.HttpConnection.{HttpConnection}
-use Rattle.dq_http.specs.HttpConnections.{IsNew, HasTurn}
-use Rattle.dq_http.specs.RequestQueue.{AllTurn, AreNew, LetsIn}
-
--- connections that came, and then others
-pub new-both : (came more : List HttpConnection) → AreNew came → AreNew more → AreNew (came ++ more)
-new-both [] more are news = news
-new-both (first ∷ came) more are news = (are.0, new-both came more are.1 news)
-
-pub lets_none : (old : List HttpConnection) → LetsIn old old
-lets_none old = ([], tt, sym (append-nil old))
-
-pub lets_one : (old new : List HttpConnection) (place : ℕ) (peer : Option SocketAddr) (connection : HttpConnection) → IsNew place peer connection → new ≡ old ++ connection ∷ [] → LetsIn old new
-lets_one old new place peer connection is held = (connection ∷ [], ((place, peer, is), tt), held)
-
-pub lets_then : (old mid new : List HttpConnection) → LetsIn old mid → LetsIn mid new → LetsIn old new
-lets_then old mid new (came, are, is) (more, news, held) = (
-  came ++ more,
-  new-both came more are news,
-  held ∙ (ap (λ (l : List HttpConnection). l ++ more) is ∙ append_assoc old came more),
-)
+use Rattle.dq_http.specs.HttpConnections.{HasTurn}
+use Rattle.dq_http.specs.RequestQueue.{AllTurn}
 
 -- one more had its turn
 pub turn-kept : (guard : Guard) (done kept : List HttpConnection) (connection next : HttpConnection) → AllTurn guard done kept → HasTurn guard connection next
@@ -87,3 +68,10 @@ module _ {guard : Guard} {all now : List HttpConnection} {at : ℕ} (so : TurnsS
         place = so.place;
         turned = turn-gone guard so.done so.kept first so.turned;
       }
+
+  -- all had theirs
+  pub turns-end : length now ≤ at → AllTurn guard all now
+  turns-end past = by so.others so.were so.holds where
+    by : (others : List HttpConnection) → all ≡ so.done ++ others → now ≡ so.kept ++ others → AllTurn guard all now
+    by [] were holds = rw (were, holds, append-nil so.done, append-nil so.kept) so.turned
+    by (first ∷ others) were holds = absurd (omega (arith, so.place, past, ap length holds, length-append so.kept (first ∷ others)))

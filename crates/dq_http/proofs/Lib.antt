@@ -1,1 +1,2 @@
 pub mod HttpTurns
+pub mod Room

@@ -1,7 +1,8 @@
 -- The reads and writes of a connection of the web front.
-use Rattle.std.specs.Prelude.{◌≡◌, ◌⊎◌, ◌++◌, ◌&&◌, ℕ, ◌<◌, ◌/◌, ◌-◌, nat_le, Bool, true, false, not, is_some, IsTrue, if◌then◌else◌, List, [], length, drop, Option, Some, None, Result}
+use Rattle.std.specs.Prelude.{◌≡◌, ◌⊎◌, ◌++◌, ◌&&◌, ℕ, ◌<◌, ◌/◌, ◌-◌, nat_le, Bool, true, false, not, is_some, IsTrue, IfSome, if◌then◌else◌, List, [], length, drop, Option, Some, None, Result}
 use Rattle.std.specs.Borrow.{Bor}
 use Rattle.std.specs.Time.{instant_nanos}
+use Rattle.std.specs.declared.net.ip_addr.IpAddr.{IpAddr}
 use Rattle.std.specs.declared.net.socket_addr.SocketAddr.{SocketAddr}
 use Rattle.std.specs.declared.time.Instant.{Instant}
 use Rattle.httpdate.specs.declared.date.HttpDate.{HttpDate}
@@ -13,6 +14,7 @@ use Rattle.dq_request.specs.declared.response.Response.{Response}
 use Rattle.dq_web.specs.declared.guard.Guard.{Guard}
 use Rattle.dq_web.specs.declared.replies.Written.{Written}
 use Rattle.dq_web.specs.Answers.{IsReplyTo, IsResponse}
+use Rattle.dq_web.specs.Guards.{IsProxy}
 use Rattle.dq_wires.specs.Logs.{Logs}
 use Rattle.dq_wires.specs.declared.calls.Call.{Call}
 use Rattle.dq_wires.specs.declared.calls.Call.TheVariants as call
@@ -26,12 +28,13 @@ use Rattle.dq_http.specs.declared.http_connection.TheConstants.{CONTINUE}
 use Rattle.dq_http.specs.declared.http_connection.Stage.{Stage}
 use Rattle.dq_http.specs.declared.http_connection.Stage.TheVariants as stage
 use Rattle.dq_http.specs.declared.http_connection.HttpConnection.{HttpConnection}
+use Rattle.dq_http.specs.Notes.{direct_sender}
 use Rattle.dq_http.specs.RequestOutcomes.{IsOutcome, IsTooLate}
 
 -- one that has just come from a peer, and of which nothing is read
 pub record IsNew (place : ℕ) (peer : Option SocketAddr) (connection : HttpConnection) : Type 0 where
   pub at : connection.place ≡ place
-  pub from : connection.peer ≡ peer
+  pub from : connection.peer ≡ direct_sender peer
   pub came : connection.came.items ≡ []
   pub stage : connection.stage ≡ stage.Reading
   pub last : connection.is_last ≡ false
@@ -171,10 +174,20 @@ is_reading other = false
 abbrev pub is_to_take : HttpConnection → Bool
 is_to_take connection = connection.is_fresh && is_reading connection.stage
 
+-- what is to be done for the octets that came is done
+abbrev pub TakesFront : Guard → Option Instant → HttpConnection → HttpConnection → Type 0
+TakesFront guard now old new =
+    (outcome : RequestOutcome) × IsOutcome guard old.came.items outcome × Takes now outcome old new
+
+-- The address from which a request came is read off it, and nothing else changes. Only a proxy is believed.
+abbrev pub IsSender : Option IpAddr → HttpConnection → HttpConnection → Type 0
+IsSender proxy old new = IfSome new.peer.forwarded (λ _. IsProxy proxy old.peer.address)
+    × (new ≡ record old { peer = record old.peer { forwarded = new.peer.forwarded } })
+
 -- where a request is read, and something came that was not looked at, what is to be done for it is done
 abbrev pub TakesUp : Guard → Option Instant → HttpConnection → HttpConnection → Type 0
 TakesUp guard now old new = ((is_to_take old ≡ false) × (new ≡ old))
-    ⊎ (IsTrue (is_to_take old) × ((outcome : RequestOutcome) × IsOutcome guard old.came.items outcome × Takes now outcome old new))
+    ⊎ (IsTrue (is_to_take old) × ((mid : HttpConnection) × IsSender guard.proxy old mid × TakesFront guard now mid new))
 
 -- ---- the time that a request has
 
@@ -195,19 +208,20 @@ is_past (Some now) (Some since) seconds =
     nat_le seconds ((instant_nanos now - instant_nanos since) / 1_000_000_000)
 is_past now since seconds = false
 
--- what a connection waits for did not come in that time
+-- what a connection waits for did not come in that time, nor has anything just come that was not looked at
 abbrev pub is_late : Option Instant → HttpConnection → Bool
-is_late now connection =
-    is_past now connection.since (seconds_for connection.awaits_body) && is_reading connection.stage
+is_late now connection = is_past now connection.since (seconds_for connection.awaits_body)
+    && is_reading connection.stage && not connection.is_fresh
 
 -- it is told so, and nothing comes after that
-abbrev pub IsRefusedLate : HttpConnection → HttpConnection → Type 0
-IsRefusedLate old new = (date : Option HttpDate) × (written : Written) × IsTooLate date written
-    × (new ≡ record (with_response (seen old) written.octets.items) { is_last = true })
+abbrev pub IsRefusedLate : Option IpAddr → HttpConnection → HttpConnection → Type 0
+IsRefusedLate proxy old new = (mid : HttpConnection) × IsSender proxy old mid
+    × ((date : Option HttpDate) × (written : Written) × IsTooLate date written
+    × (new ≡ record (with_response (seen mid) written.octets.items) { is_last = true }))
 
 -- what came is taken up, unless it is late
 abbrev pub TakesOrRefuses : Guard → Option Instant → HttpConnection → HttpConnection → Type 0
-TakesOrRefuses guard now old new = (IsTrue (is_late now old) × IsRefusedLate old new)
+TakesOrRefuses guard now old new = (IsTrue (is_late now old) × IsRefusedLate guard.proxy old new)
     ⊎ ((is_late now old ≡ false) × TakesUp guard now old new)
 
 -- ---- its turn

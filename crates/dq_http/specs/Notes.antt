@@ -1,15 +1,22 @@
--- The log's note of a request: the address that it came from, its method, its institution, the path below that without
--- its query, and the status of its response.
-use Rattle.std.specs.Prelude.{◌≡◌, ◌==◌, ℕ, ◌++◌, Bool, ◌||◌, ◌&&◌, if◌then◌else◌, List, [], ◌∷◌, take, drop, map, position, codes, Option, Some, None}
+-- The log's note of a request: the address that it came from, that from which a proxy says it came, the label of the
+-- access token that let it in, its method, its institution, the path below that without its query, and the status of
+-- its response.
+use Rattle.std.specs.Prelude.{◌≡◌, ◌==◌, ℕ, ◌++◌, Bool, ◌||◌, ◌&&◌, false, if◌then◌else◌, List, [], ◌∷◌, take, drop, map, position, codes, Option, Some, None}
 use Rattle.std.specs.Char.{is_ascii_graphic, is_ascii_uppercase, is_ascii_digit}
 use Rattle.std.specs.Fmt.{decimal}
 use Rattle.std.specs.List.{list_all}
-use Rattle.std.specs.Net.Text.{socket_text}
+use Rattle.std.specs.Net.Text.{ip_text, socket_text}
+use Rattle.std.specs.Net.Addr.{ipv4_octets, ipv6_segments}
+use Rattle.std.specs.Net.Socket.{socket_ip}
+use Rattle.std.specs.Str.{bytes_eq}
+use Rattle.std.specs.declared.net.ip_addr.IpAddr.{IpAddr}
+use Rattle.std.specs.declared.net.ip_addr.IpAddr.TheVariants.{V4, V6}
 use Rattle.std.specs.declared.net.socket_addr.SocketAddr.{SocketAddr}
 use Rattle.dq_list.specs.Lengths.{is_empty}
 use Rattle.dq_web.specs.declared.cutting.Head.{Head}
 use Rattle.dq_web.specs.declared.status.Status.{Status}
 use Rattle.dq_web.specs.Responses.{status_code}
+use Rattle.dq_http.specs.declared.request_log.Sender.{Sender}
 
 -- an octet that is no graphic character of ASCII is told as a question mark: no request can write lines of the log
 abbrev pub told_octet : ℕ → ℕ
@@ -41,16 +48,38 @@ abbrev pub parts_of : List ℕ → List ℕ × List ℕ
 parts_of [] = ([], [])
 parts_of (slash ∷ rest) = named_at slash rest (position (λ octet. octet == 47) rest)
 
-abbrev pub words_text : Head → List ℕ
-words_text head = let parts = parts_of (path_of head.target.now) in
-    told_text head.method.now ++ codes " " ++ told_text parts.0 ++ codes " " ++ told_text parts.1
+abbrev pub words_text : List ℕ → Head → List ℕ
+words_text label head = let parts = parts_of (path_of head.target.now) in
+    told_text label ++ codes " " ++ told_text head.method.now ++ codes " " ++ told_text parts.0 ++ codes " " ++ told_text parts.1
+
+abbrev pub is_same_address : IpAddr → IpAddr → Bool
+is_same_address (V4 one) (V4 other) = bytes_eq (ipv4_octets one) (ipv4_octets other)
+is_same_address (V6 one) (V6 other) = bytes_eq (ipv6_segments one) (ipv6_segments other)
+is_same_address one other = false
+
+-- a peer has this address
+abbrev pub has_address : Option SocketAddr → IpAddr → Bool
+has_address None address = false
+has_address (Some peer) address = is_same_address (socket_ip peer) address
 
 -- the address of a peer, and a hyphen where it is not known
 abbrev pub peer_text : Option SocketAddr → List ℕ
 peer_text None = codes "-"
 peer_text (Some peer) = socket_text peer
 
+-- one for whom no proxy has spoken
+abbrev pub direct_sender : Option SocketAddr → Sender
+direct_sender peer = record { address = peer; forwarded = None }
+
+-- that of a sender, and the address from which its peer says that the request came
+abbrev pub forwarded_text : Option IpAddr → List ℕ
+forwarded_text None = []
+forwarded_text (Some address) = codes " for " ++ ip_text address
+
+abbrev pub sender_text : Sender → List ℕ
+sender_text sender = peer_text sender.address ++ forwarded_text sender.forwarded
+
 -- One line more, with the status code of the response (RFC 9110 section 15), and how long it took.
-abbrev pub HasNote : Option SocketAddr → List ℕ → Status → List ℕ → List ℕ → Type 0
+abbrev pub HasNote : Sender → List ℕ → Status → List ℕ → List ℕ → Type 0
 HasNote peer words status old new = (milliseconds : ℕ)
-    × (new ≡ old ++ (peer_text peer ++ (codes " " ++ (words ++ (codes " " ++ (decimal (status_code status) ++ (codes " ms " ++ (decimal milliseconds ++ codes "\n"))))))))
+    × (new ≡ old ++ (sender_text peer ++ (codes " " ++ (words ++ (codes " " ++ (decimal (status_code status) ++ (codes " ms " ++ (decimal milliseconds ++ codes "\n"))))))))

@@ -1,14 +1,15 @@
 -- Which request is answered next.
 use Rattle.std.specs.Prelude.{◌≡◌, ◌⊎◌, ℕ, ◌+◌, ◌++◌, List, [], ◌∷◌, take, drop, position, slice_get, slice_set, Option, Some, None}
 use Rattle.std.specs.Option.{option_and_then}
-use Rattle.std.specs.declared.net.socket_addr.SocketAddr.{SocketAddr}
 use Rattle.dq_config.specs.declared.config.Institution.{Institution}
 use Rattle.dq_request.specs.declared.request.Request.{Request}
 use Rattle.dq_request.specs.declared.response.Response.{Response}
 use Rattle.dq_web.specs.declared.guard.Guard.{Guard}
+use Rattle.dq_web.specs.declared.keys.Keys.{Keys}
 use Rattle.dq_http.specs.declared.http_server.HttpServer.{HttpServer}
 use Rattle.dq_http.specs.declared.http_connection.HttpConnection.{HttpConnection}
-use Rattle.dq_http.specs.HttpConnections.{IsNew, is_waiting, asked_in, AnswersAt, HasTurn}
+use Rattle.dq_http.specs.HttpConnections.{is_waiting, asked_in, AnswersAt, HasTurn}
+use Rattle.dq_http.specs.Places.{LetsIn, with_room}
 
 -- where the first connection stands whose request waits
 abbrev pub first_waiting : List HttpConnection → Option ℕ
@@ -49,15 +50,12 @@ AllTurn guard (connection ∷ others) new = AllTurn guard others new
     ⊎ ((kept : HttpConnection) × (rest : List HttpConnection) × (new ≡ kept ∷ rest) × HasTurn guard connection kept
     × AllTurn guard others rest)
 
-abbrev pub AreNew : List HttpConnection → Type 0
-AreNew [] = Unit {0}
-AreNew (connection ∷ others) = ((place : ℕ) × (peer : Option SocketAddr) × IsNew place peer connection) × AreNew others
-
--- connections are let in behind the others
-abbrev pub LetsIn : List HttpConnection → List HttpConnection → Type 0
-LetsIn old new = (came : List HttpConnection) × AreNew came × (new ≡ old ++ came)
-
 -- ---- of a server
+
+-- other keys in place of those that it has; its connections are as they were, and what they wait for
+abbrev pub with_keys : {Wired : Type 0} → Keys → HttpServer Wired → HttpServer Wired
+with_keys keys server =
+    record server { state = record server.state { guard = record server.state.guard { keys = keys } } }
 
 abbrev pub next_of : {Wired : Type 0} → HttpServer Wired → Option Request
 next_of server = waiting_request server.connections.items
@@ -65,9 +63,11 @@ next_of server = waiting_request server.connections.items
 -- Only its connections change.
 abbrev pub Answered : {Wired : Type 0} → HttpServer Wired → HttpServer Wired → Response → Type 0
 Answered old new response = Answers old.state.institutions.items old.connections.items new.connections.items response
-    × (new.wires ≡ old.wires) × (new.state ≡ old.state)
+    × (new.wires ≡ old.wires) × (new.state ≡ old.state) × (new.peer_connections ≡ old.peer_connections)
 
--- Connections are let in, and then all have their turns.
+-- Connections are let in, all have their turns, and idle ones give way to those that come next.
 abbrev pub Attended : {Wired : Type 0} → HttpServer Wired → HttpServer Wired → Type 0
-Attended old new = (all : List HttpConnection) × LetsIn old.connections.items all
-    × AllTurn old.state.guard all new.connections.items × (new.state ≡ old.state)
+Attended old new = (all : List HttpConnection) × (left : List HttpConnection)
+    × LetsIn old.peer_connections old.state.guard.proxy old.connections.items all
+    × AllTurn old.state.guard all left × (new.connections.items ≡ with_room left) × (new.state ≡ old.state)
+    × (new.peer_connections ≡ old.peer_connections)

@@ -2,16 +2,17 @@
 ghost use Rattle.std.specs.Prelude.{◌≡◌, option_copied, IfOk, OnOk};
 ghost use Rattle.std.specs.Bool.{OnTrue};
 ghost use Rattle.dq_web.specs.Answers.{IsReplyTo, IsResponse};
-ghost use Rattle.dq_http.specs.HttpConnections.{IsNew, IsOver, IsRest, WritesRest, IsSent, IsRead, IsTakenOff, with_response, AnswersAt, seen, awaiting_body, begun_wait, is_late, IsRefusedLate, TakesAnswer, Takes, TakesUp, TakesOrRefuses, Moves, Turns, is_waiting, is_busy, asked_in, asks_report};
+ghost use Rattle.dq_http.specs.HttpConnections.{IsNew, IsOver, IsRest, WritesRest, IsSent, IsRead, IsTakenOff, with_response, AnswersAt, seen, awaiting_body, begun_wait, is_late, IsSender, IsRefusedLate, TakesAnswer, Takes, TakesFront, is_to_take, TakesUp, TakesOrRefuses, Moves, Turns, is_waiting, is_busy, asked_in, asks_report};
+ghost use Rattle.dq_http.specs.Places.{is_of, is_idle};
 
 use crate::http_state::{Answer, Given, HttpState, RequestOutcome};
-use crate::request_log::Notes;
+use crate::request_log::{Notes, Sender, has_address};
 use dq_list::Listed;
 use dq_request::{Request, Response};
 use dq_web::{Question, Written};
 use dq_wires::{ReadTurn, WireFault, Wires};
 use std::alloc::{AllocError, Global};
-use std::net::SocketAddr;
+use std::net::{IpAddr, SocketAddr};
 use std::time::Instant;
 
 /// The seconds in which the head of a request has to come, from the first octet of it, and of the first
@@ -38,12 +39,12 @@ pub(crate) enum Stage {
     Over,
 }
 
-/// A connection: its place among the wires, its peer's address if that is known, what came and is not
+/// A connection: its place among the wires, the sender of its request, what came and is not
 /// taken, what becomes of its request, and whether nothing comes after the response.
 #[derive(Drop)]
 pub(crate) struct HttpConnection {
     pub place: usize,
-    pub peer: Option<SocketAddr>,
+    pub peer: Sender,
     pub came: Vec<u8>,
     pub stage: Stage,
     pub is_last: bool,
@@ -68,7 +69,10 @@ impl HttpConnection {
     {
         HttpConnection {
             place,
-            peer,
+            peer: Sender {
+                address: peer,
+                forwarded: None,
+            },
             came: Vec::new(alloc),
             stage: Stage::Reading,
             is_last: false,
@@ -79,6 +83,20 @@ impl HttpConnection {
             words: String::new(alloc),
             begun: None,
         }
+    }
+
+    /// Whether its peer has an address.
+    pub fn is_of(&self, address: IpAddr) -> bool
+        ensures { result ≡ is_of address self.now }
+    {
+        has_address(self.peer.address, address)
+    }
+
+    /// Whether its last request was answered, and nothing of the next one has come.
+    pub fn is_idle(&self) -> bool
+        ensures { result ≡ is_idle self.now }
+    {
+        matches!(self.stage, Stage::Reading) && self.came.is_empty() && self.since.is_none()
     }
 
     /// Whether its request waits for the server's response.
@@ -135,6 +153,7 @@ impl HttpConnection {
             state.now.institutions.items) question.now.framing) }
     {
         let written = state.response_to(question, response)?;
+        notes.count(&written);
         notes.tell(self.peer, self.words.as_str(), self.begun, written.status)?;
         Ok(written)
     }
@@ -246,6 +265,7 @@ impl HttpConnection {
         self.begun = notes.now();
         match answer.given {
             Given::Response(written) => {
+                notes.count(&written);
                 notes.tell(self.peer, self.words.as_str(), self.begun, written.status)?;
                 self.put(written.octets);
             }
@@ -278,6 +298,46 @@ impl HttpConnection {
         Ok(())
     }
 
+    // Reads from where its request came, as a proxy says it.
+    fn read_sender(&mut self, state: &HttpState)
+        ensures { IsSender state.now.guard.proxy self.old self.new }
+    {
+        self.peer.forwarded = state.forwarded(self.peer.address, self.came.as_slice());
+    }
+
+    // Does what is to be done for what came.
+    fn take_front(
+        &mut self,
+        state: &HttpState,
+        notes: &mut Notes,
+        now: Option<Instant>,
+    ) -> Result<(), AllocError>
+        ensures { OnOk result (TakesFront state.now.guard now self.old self.new) }
+    {
+        match state.outcome_for(self.came.as_slice(), notes.date())? {
+            RequestOutcome::AwaitHead => self.is_fresh = false,
+            RequestOutcome::AwaitBody => self.await_body(now),
+            RequestOutcome::GoOn => self.go_on(state.alloc, now)?,
+            RequestOutcome::Refuse(words, written) => {
+                let begun = notes.now();
+                notes.count(&written);
+                notes.tell(self.peer, words.as_str(), begun, written.status)?;
+                self.is_fresh = false;
+                self.is_last = true;
+                self.put(written.octets);
+            }
+            RequestOutcome::Answer(answer) => self.take(answer, notes)?,
+        }
+        Ok(())
+    }
+
+    // Whether a request is read, and something came that was not looked at.
+    fn is_to_take(&self) -> bool
+        ensures { result ≡ is_to_take self.now }
+    {
+        self.is_fresh && matches!(self.stage, Stage::Reading)
+    }
+
     // Takes up what came, where a request is read and there is something new.
     fn take_up(
         &mut self,
@@ -287,22 +347,11 @@ impl HttpConnection {
     ) -> Result<(), AllocError>
         ensures { OnOk result (TakesUp state.now.guard now self.old self.new) }
     {
-        if !self.is_fresh || !matches!(self.stage, Stage::Reading) {
+        if !self.is_to_take() {
             return Ok(());
         }
-        match state.outcome_for(self.came.as_slice(), notes.date())? {
-            RequestOutcome::AwaitHead => self.is_fresh = false,
-            RequestOutcome::AwaitBody => self.await_body(now),
-            RequestOutcome::GoOn => self.go_on(state.alloc, now)?,
-            RequestOutcome::Refuse(words, written) => {
-                let begun = notes.now();
-                notes.tell(self.peer, words.as_str(), begun, written.status)?;
-                self.is_fresh = false;
-                self.is_last = true;
-                self.put(written.octets);
-            }
-            RequestOutcome::Answer(answer) => self.take(answer, notes)?,
-        }
+        self.read_sender(state);
+        self.take_front(state, notes, now)?;
         Ok(())
     }
 
@@ -328,7 +377,8 @@ impl HttpConnection {
         }
     }
 
-    // Whether the head or the body that it waits for has not come in the time that it has.
+    // Whether the head or the body that it waits for has not come in the time that it has. What has just come
+    // is looked at first: it may have waited for the server.
     fn is_late(&self, now: Option<Instant>) -> bool
         ensures { result ≡ is_late now self.now }
     {
@@ -341,6 +391,7 @@ impl HttpConnection {
             (Some(now), Some(since)) => {
                 now.duration_since(since).as_secs() >= seconds
                     && matches!(self.stage, Stage::Reading)
+                    && !self.is_fresh
             }
             _ => false,
         }
@@ -348,10 +399,12 @@ impl HttpConnection {
 
     // Refuses a request that is late.
     fn refuse_late(&mut self, state: &HttpState, notes: &mut Notes) -> Result<(), AllocError>
-        ensures { OnOk result (IsRefusedLate self.old self.new) }
+        ensures { OnOk result (IsRefusedLate state.now.guard.proxy self.old self.new) }
     {
+        self.read_sender(state);
         let words = state.words_of_begun(self.came.as_slice())?;
         let written = state.too_late(notes.date())?;
+        notes.count(&written);
         notes.tell(self.peer, words.as_str(), self.since, written.status)?;
         self.is_fresh = false;
         self.is_last = true;

@@ -1,21 +1,26 @@
 //! The outcomes for the octets that came from a connection.
-ghost use Rattle.std.specs.Prelude.{◌≡◌, ℕ, List, map, IfOk};
+ghost use Rattle.std.specs.Prelude.{◌≡◌, ℕ, List, map, string_bytes, IfOk, IfSome};
 ghost use Rattle.dq_web.specs.Answers.{IsReplyTo, IsResponse};
+ghost use Rattle.dq_web.specs.Guards.{IsProxy};
 ghost use Rattle.dq_web.specs.Requests.{IsCutOff, IsRequest};
+ghost use Rattle.dq_web.specs.declared.cutting.Cut.{Cut};
 ghost use Rattle.dq_web.specs.declared.cutting.Cut.TheVariants as cut;
-ghost use Rattle.dq_http.specs.RequestOutcomes.{IsGiven, IsAnswer, IsOutcome, IsTooLate};
+ghost use Rattle.dq_http.specs.RequestOutcomes.{unread_framing, IsFramed, IsGiven, IsGivenAs, IsAnswer, IsOutcome, IsTooLate, IsBegunNoted};
+ghost use Rattle.dq_http.specs.Places.{is_proxy};
 ghost use Rattle.dq_http.specs.InstitutionLimits.{limits_of};
 
-use crate::request_log::{UNREADABLE, words_of};
+use crate::request_log::{UNREADABLE, has_address, words_of};
 use dq_config::Institution;
 use dq_list::Listed;
 use dq_request::Response;
 use dq_web::{
-    Counters, Cut, Framing, Guard, Head, HttpRequest, ParsedRequest, Question, Refusal, Written,
-    answered, ask, cut_off, document, healthy, judge, misspelled, refused,
+    Counters, Cut, Framing, Guard, Head, HttpRequest, Judgement, Keys, ParsedRequest, Question,
+    Refusal, ResourceKind, Written, answered, ask, cut_off, document, healthy, judge, kind_at,
+    misspelled, permitted, refused, unreadable,
 };
 use httpdate::HttpDate;
 use std::alloc::{AllocError, Global};
+use std::net::{IpAddr, SocketAddr};
 
 /// The outcome for the octets that came from a connection.
 #[derive(Drop)]
@@ -48,14 +53,27 @@ pub(crate) enum Given {
     Question(Question),
 }
 
-/// The state that requests are answered by: the keys and the hosts, the names and limits of
-/// institutions, and the counts of what was served.
+/// The state that requests are answered by: the guard, the names and limits of institutions, and the
+/// counts of what was served.
 #[derive(Drop)]
 pub struct HttpState {
     pub(crate) alloc: Global,
     guard: Guard,
     institutions: Vec<Institution>,
     counters: Counters,
+}
+
+/// How a response to octets is framed in which no head stands.
+fn unread_framing(date: Option<HttpDate>) -> Framing
+    ensures { result ≡ unread_framing date }
+{
+    Framing {
+        is_last: true,
+        is_head: false,
+        date,
+        viewer: None,
+        kind: ResourceKind::Nowhere,
+    }
 }
 
 /// Returns the parts of an institution that count here: its name and its limits.
@@ -103,6 +121,13 @@ impl HttpState {
         self.counters = counters;
     }
 
+    /// Takes other keys in place of those that it has.
+    pub(crate) fn set_keys(&mut self, keys: Keys)
+        ensures { self.new ≡ record self.old { guard = record self.old.guard { keys = keys } } }
+    {
+        self.guard.keys = keys;
+    }
+
     /// Returns the outcome for octets that came, at a time.
     pub(crate) fn outcome_for(
         &self,
@@ -115,16 +140,30 @@ impl HttpState {
             Cut::Unfinished => Ok(RequestOutcome::AwaitHead),
             Cut::Begun(head) => self.outcome_for_head(&head, date),
             Cut::Refused(refusal) => {
-                let framing = Framing {
-                    is_last: true,
-                    is_head: false,
-                    date,
-                };
+                let framing = unread_framing(date);
                 let words = String::from_str(self.alloc, UNREADABLE)?;
-                Ok(RequestOutcome::Refuse(words, refused(self.alloc, refusal, framing)?))
+                Ok(RequestOutcome::Refuse(words, refused(self.alloc, refusal, &framing)?))
             }
             Cut::Whole(request) => Ok(RequestOutcome::Answer(self.answer_to(&request, date)?)),
         }
+    }
+
+    /// How a response to a head is framed.
+    fn framing_of(
+        &self,
+        head: &Head<'_>,
+        is_last: bool,
+        date: Option<HttpDate>,
+    ) -> Result<Framing, AllocError>
+        ensures { IfOk result (IsFramed self.now.guard head.now is_last) }
+    {
+        Ok(Framing {
+            is_last,
+            is_head: head.is_head(),
+            date,
+            viewer: self.guard.viewer_of(self.alloc, &head.fields)?,
+            kind: kind_at(head),
+        })
     }
 
     /// Returns the outcome for a head whose body has not come.
@@ -136,18 +175,16 @@ impl HttpState {
         ensures { (came : List ℕ) → IsCutOff came (cut.Begun head.now)
             → IfOk result (IsOutcome self.now.guard came) }
     {
-        let framing = Framing {
-            is_last: true,
-            is_head: head.is_head(),
-            date,
-        };
+        let framing = self.framing_of(head, true, date)?;
         match judge(self.alloc, &self.guard, head)? {
-            Some(refusal) => {
-                let words = words_of(self.alloc, head)?;
-                Ok(RequestOutcome::Refuse(words, refused(self.alloc, refusal, framing)?))
+            Judgement::Refused(refusal) => {
+                let words = words_of(self.alloc, &[], head)?;
+                Ok(RequestOutcome::Refuse(words, refused(self.alloc, refusal, &framing)?))
             }
-            None if head.is_expecting() => Ok(RequestOutcome::GoOn),
-            None => Ok(RequestOutcome::AwaitBody),
+            Judgement::Open | Judgement::Opened(_) if head.is_expecting() => {
+                Ok(RequestOutcome::GoOn)
+            }
+            Judgement::Open | Judgement::Opened(_) => Ok(RequestOutcome::AwaitBody),
         }
     }
 
@@ -155,18 +192,43 @@ impl HttpState {
     pub(crate) fn too_late(&self, date: Option<HttpDate>) -> Result<Written, AllocError>
         ensures { IfOk result (IsTooLate date) }
     {
-        let framing = Framing {
-            is_last: true,
-            is_head: false,
-            date,
-        };
-        refused(self.alloc, Refusal::Time, framing)
+        refused(self.alloc, Refusal::Time, &unread_framing(date))
+    }
+
+    /// Returns the address from which the request at the front of octets came, as the proxy says it.
+    pub(crate) fn forwarded(&self, peer: Option<SocketAddr>, came: &[u8]) -> Option<IpAddr>
+        ensures { IfSome result (λ _. IsProxy self.now.guard.proxy peer) }
+    {
+        if !self.guard.is_proxy(peer) {
+            return None;
+        }
+        match cut_off(came) {
+            Cut::Begun(head) => self.guard.forwarded(peer, &head.fields),
+            Cut::Whole(request) => self.guard.forwarded(peer, &request.head.fields),
+            Cut::Unfinished | Cut::Refused(_) => None,
+        }
+    }
+
+    /// Whether a peer is the proxy.
+    pub(crate) fn is_proxy(&self, peer: Option<SocketAddr>) -> bool
+        ensures { result ≡ is_proxy self.now.guard.proxy peer }
+    {
+        match self.guard.proxy {
+            Some(proxy) => has_address(peer, proxy),
+            None => false,
+        }
     }
 
     /// The words in the log of a request that has not come whole.
-    pub(crate) fn words_of_begun(&self, came: &[u8]) -> Result<String, AllocError> {
+    pub(crate) fn words_of_begun(&self, came: &[u8]) -> Result<String, AllocError>
+        ensures { IfOk result (λ words. (begun : Cut) × IsCutOff came.now begun
+            × IsBegunNoted self.now.guard begun (string_bytes words)) }
+    {
         match cut_off(came) {
-            Cut::Begun(head) => words_of(self.alloc, &head),
+            Cut::Begun(head) => {
+                let judgement = judge(self.alloc, &self.guard, &head)?;
+                words_of(self.alloc, judgement.label(), &head)
+            }
             _ => String::from_str(self.alloc, UNREADABLE),
         }
     }
@@ -177,18 +239,41 @@ impl HttpState {
     {
         let alloc = self.alloc;
         match ask(alloc, &self.guard, request)? {
-            ParsedRequest::Refused(refusal) => Ok(Given::Response(refused(
-                alloc, refusal, framing,
-            )?)),
-            ParsedRequest::Misspelled(word) => {
-                Ok(Given::Response(misspelled(alloc, word.as_str(), framing)?))
+            ParsedRequest::Refused(refusal) => {
+                Ok(Given::Response(refused(alloc, refusal, &framing)?))
             }
-            ParsedRequest::Document(which) => Ok(Given::Response(document(alloc, which, framing)?)),
-            ParsedRequest::Health => Ok(Given::Response(healthy(alloc, framing)?)),
+            ParsedRequest::Misspelled(word) => {
+                Ok(Given::Response(misspelled(alloc, word.as_str(), &framing)?))
+            }
+            ParsedRequest::Unreadable(fault) => {
+                Ok(Given::Response(unreadable(alloc, fault, &framing)?))
+            }
+            ParsedRequest::Document(which) => {
+                Ok(Given::Response(document(alloc, which, &framing)?))
+            }
+            ParsedRequest::Health => Ok(Given::Response(healthy(alloc, &framing)?)),
+            ParsedRequest::Preflight => Ok(Given::Response(permitted(alloc, &framing)?)),
             ParsedRequest::Question(mut question) => {
                 question.framing = framing;
                 Ok(Given::Question(question))
             }
+        }
+    }
+
+    /// Returns what a request is given that is judged so by its head.
+    fn given_as(
+        &self,
+        judgement: Judgement<'_>,
+        request: &HttpRequest<'_>,
+        framing: Framing,
+    ) -> Result<Given, AllocError>
+        ensures { IfOk result (IsGivenAs judgement.entry self.now.guard request.now framing) }
+    {
+        match judgement {
+            Judgement::Refused(refusal) => {
+                Ok(Given::Response(refused(self.alloc, refusal, &framing)?))
+            }
+            Judgement::Open | Judgement::Opened(_) => self.given_for(request, framing),
         }
     }
 
@@ -202,17 +287,13 @@ impl HttpState {
             → IfOk result (IsAnswer self.now.guard came) }
     {
         let is_last = request.head.is_last;
-        let framing = Framing {
-            is_last,
-            is_head: request.head.is_head(),
-            date,
-        };
-        let words = words_of(self.alloc, &request.head)?;
+        let framing = self.framing_of(&request.head, is_last, date)?;
+        let judgement = judge(self.alloc, &self.guard, &request.head)?;
         Ok(Answer {
-            words,
+            words: words_of(self.alloc, judgement.label(), &request.head)?,
             extent: request.extent,
             is_last,
-            given: self.given_for(request, framing)?,
+            given: self.given_as(judgement, request, framing)?,
         })
     }
 

@@ -1,14 +1,15 @@
 //! The log's note of a request.
 ghost use Rattle.std.specs.Prelude.{◌≡◌, ◌++◌, ◌==◌, [], None, position, string_bytes, take, IfOk, OnOk};
 ghost use Rattle.std.specs.List.{list_all};
-ghost use Rattle.dq_http.specs.Notes.{told_octet, told_text, is_of_name, path_of, parts_of, words_text, peer_text, HasNote};
+ghost use Rattle.dq_web.specs.Counting.{with_request};
+ghost use Rattle.dq_http.specs.Notes.{told_octet, told_text, is_of_name, path_of, parts_of, words_text, peer_text, sender_text, has_address, HasNote};
 
-use dq_web::{Head, Status};
+use dq_web::{Head, RequestCounts, Status, Written};
 use dq_wires::GivenUp;
 use httpdate::HttpDate;
 use std::alloc::{AllocError, Global};
 use std::mem;
-use std::net::SocketAddr;
+use std::net::{IpAddr, SocketAddr};
 use std::time::{Instant, SystemTime};
 
 /// The most octets of a path that are told.
@@ -89,13 +90,15 @@ fn parts_of(path: &[u8]) -> (&[u8], &[u8])
     }
 }
 
-/// The words of a request in a log: its method, its institution or a hyphen, and the path below that
-/// without its query.
-pub(crate) fn words_of(alloc: Global, head: &Head<'_>) -> Result<String, AllocError>
-    ensures { IfOk result (λ words. string_bytes words ≡ words_text head.now) }
+/// The words of a request in a log: the label of the access token that let it in, its method, its
+/// institution, each a hyphen if there is none, and the path below that without its query.
+pub(crate) fn words_of(alloc: Global, label: &[u8], head: &Head<'_>) -> Result<String, AllocError>
+    ensures { IfOk result (λ words. string_bytes words ≡ words_text label.now head.now) }
 {
     let (name, below) = parts_of(path_of(head.target));
     let mut text = String::new(alloc);
+    put_told(&mut text, label)?;
+    text.push(' ')?;
     put_told(&mut text, head.method)?;
     text.push(' ')?;
     put_told(&mut text, name)?;
@@ -105,7 +108,25 @@ pub(crate) fn words_of(alloc: Global, head: &Head<'_>) -> Result<String, AllocEr
 }
 
 /// The words of a request that cannot be read.
-pub(crate) const UNREADABLE: &str = "- - -";
+pub(crate) const UNREADABLE: &str = "- - - -";
+
+/// The sender of a request: the address of its peer, if that is known, and that from which the peer
+/// says that the request came, if it is a proxy that is believed.
+#[derive(Clone, Copy)]
+pub(crate) struct Sender {
+    pub address: Option<SocketAddr>,
+    pub forwarded: Option<IpAddr>,
+}
+
+/// Whether a peer has an address.
+pub(crate) fn has_address(peer: Option<SocketAddr>, address: IpAddr) -> bool
+    ensures { result ≡ has_address peer address }
+{
+    match peer {
+        Some(peer) => peer.ip() == address,
+        None => false,
+    }
+}
 
 /// The address of a peer, or a hyphen where it is not known.
 fn peer_text(alloc: Global, peer: Option<SocketAddr>) -> Result<String, AllocError>
@@ -117,12 +138,24 @@ fn peer_text(alloc: Global, peer: Option<SocketAddr>) -> Result<String, AllocErr
     }
 }
 
-/// A clock, and the notes of requests that were answered, a line each.
+/// The address of a sender, followed by that from which its request came.
+fn sender_text(alloc: Global, sender: Sender) -> Result<String, AllocError>
+    ensures { IfOk result (λ text. string_bytes text ≡ sender_text sender) }
+{
+    let peer = peer_text(alloc, sender.address)?;
+    match sender.forwarded {
+        Some(address) => format!(in alloc; "{peer} for {address}"),
+        None => Ok(peer),
+    }
+}
+
+/// A clock, the notes of requests that were answered, a line each, and how many there were.
 #[derive(Drop)]
 pub(crate) struct Notes {
     alloc: Global,
     clock: HostRuntime,
     lines: String,
+    requests: RequestCounts,
 }
 
 impl Notes {
@@ -134,6 +167,7 @@ impl Notes {
             alloc,
             clock: *rt,
             lines: String::new(alloc),
+            requests: RequestCounts::default(),
         }
     }
 
@@ -150,23 +184,40 @@ impl Notes {
         Instant::now(&self.clock).ok()
     }
 
+    /// Counts a response.
+    pub fn count(&mut self, written: &Written)
+        ensures { self.new ≡ record self.old {
+          requests = with_request written.now.kind written.now.status self.old.requests;
+        } }
+    {
+        self.requests.count(written.kind, written.status);
+    }
+
+    /// Returns how many requests were answered.
+    pub fn requests(&self) -> RequestCounts
+        ensures { result ≡ self.now.requests }
+    {
+        self.requests
+    }
+
     /// Adds a note of a peer's request that was whole at an instant, and of the status of its response.
     pub fn tell(
         &mut self,
-        peer: Option<SocketAddr>,
+        peer: Sender,
         words: &str,
         begun: Option<Instant>,
         status: Status,
     ) -> Result<(), AllocError>
-        ensures { OnOk result (HasNote peer words.now status (string_bytes self.old.lines)
+        ensures line { OnOk result (HasNote peer words.now status (string_bytes self.old.lines)
             (string_bytes self.new.lines)) }
+        ensures requests { self.new.requests ≡ self.old.requests }
     {
         let milliseconds = match (begun, self.now()) {
             (Some(begun), Some(now)) => now.duration_since(begun).as_millis(),
             _ => 0,
         };
         let code = status.code();
-        let peer = peer_text(self.alloc, peer)?;
+        let peer = sender_text(self.alloc, peer)?;
         let line = format!(in self.alloc; "{peer} {words} {code} ms {milliseconds}\n")?;
         self.lines.push_str(line.as_str())
     }
@@ -187,6 +238,7 @@ impl Notes {
     pub fn take(&mut self) -> String
         ensures taken { result ≡ self.old.lines }
         ensures left { string_bytes self.new.lines ≡ [] }
+        ensures requests { self.new.requests ≡ self.old.requests }
     {
         mem::replace(&mut self.lines, String::new(self.alloc))
     }

@@ -1,6 +1,11 @@
 pub mod AddedTokens
 pub mod Attributes
+pub mod Contents
+pub mod Faults
 pub mod Json
+pub mod JsonReader
 pub mod Text
 pub mod Keywords
 pub mod OutermostKeys
+pub mod Spellings
+pub mod Values

@@ -158,7 +158,7 @@ fn put_binary(out: &mut Writer, alloc: Global, octets: &[u8]) -> Result<(), Allo
 }
 
 #[tactic(auto, unfolding(crate::specs::Attributes::is_spelled_as_text))]
-fn is_spelled_as_text(vr: Vr) -> bool
+pub(crate) fn is_spelled_as_text(vr: Vr) -> bool
     ensures { result ≡ is_spelled_as_text vr }
 {
     match vr {
@@ -187,7 +187,7 @@ pub(crate) fn put_octets(
 
 /// The letters of a VR, as text.
 #[tactic(auto, unfolding(dq_vr::specs::Vr::letters_of))]
-fn letters(vr: Vr) -> &'static str
+pub(crate) fn letters(vr: Vr) -> &'static str
     ensures { result.now ≡ letters_of vr }
 {
     match vr {

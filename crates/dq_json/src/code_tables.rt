@@ -1,6 +1,7 @@
 //! Character sets with one octet a character (PS3.3 section C.12.1.1.2).
-ghost use Rattle.std.specs.Prelude.{◌≡◌};
+ghost use Rattle.std.specs.Prelude.{◌≡◌, ◌==◌, position};
 ghost use Rattle.dq_json.specs.Text.{table_named, high_half, character_in};
+ghost use Rattle.dq_json.specs.Spellings.{octet_in};
 
 /// A set whose octets up to 7FH are the default repertoire's.
 #[derive(Clone, Copy, Debug, PartialEq, Eq)]
@@ -88,7 +89,42 @@ impl CodeTable {
         }
         self.high_half()[octet as usize - 160]
     }
+
+    /// The octet of a character.
+    #[tactic(auto, unfolding(crate::specs::Spellings::octet_in))]
+    pub(crate) fn octet(self, character: char) -> Option<u8>
+        ensures { result ≡ octet_in self character }
+    {
+        if character.is_ascii() {
+            return Some(character as u8);
+        }
+        if character == NONE {
+            return None;
+        }
+        let place = place_of(self.high_half(), character)?;
+        Some(place as u8 + 160)
+    }
 }
+
+fn place_of(characters: &[char], character: char) -> Option<usize>
+    ensures { result ≡ position (λ other. other == character) characters.now }
+{
+    characters.iter().position(|other| *other == character)
+}
+
+/// Each set.
+pub(crate) static CODE_TABLES: [CodeTable; 10] = [
+    CodeTable::Latin1,
+    CodeTable::Latin2,
+    CodeTable::Latin3,
+    CodeTable::Latin4,
+    CodeTable::Latin5,
+    CodeTable::Cyrillic,
+    CodeTable::Arabic,
+    CodeTable::Greek,
+    CodeTable::Hebrew,
+    CodeTable::Thai,
+];
 
 /// The character for an octet that has none in its set.
 pub(crate) const NONE: char = '\u{fffd}';

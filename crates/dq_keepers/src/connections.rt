@@ -11,6 +11,7 @@ ghost use Rattle.sqlite.specs.Closing.{IsCopied};
 ghost use Rattle.sqlite.specs.Files.{file_state, IsOpened};
 ghost use Rattle.sqlite.specs.Start.{FindsIn};
 ghost use Rattle.dq_tables.specs.declared.row.Row.{Row};
+ghost use Rattle.dq_tables.specs.TableStates.{IsSettled};
 ghost use Rattle.dq_core.specs.Looking.{LeavesAlone};
 ghost use Rattle.dq_sql.specs.declared.version.Version.TheVariants.{Two};
 ghost use Rattle.dq_sql.specs.FoundStores.{HoldOctets, IsFound};
@@ -84,6 +85,8 @@ pub(crate) fn create_tables<S: FilesAt>(
 ) -> Result<HostTables<S>, (StoreFault, HostConnection<S>)>
     ensures rows { IfOk result (λ t. (⟦<HostTables<S> as Tables>⟧.state t).rows ≡ []) }
     ensures failed { IfOk result (λ t. (⟦<HostTables<S> as Tables>⟧.state t).failed ≡ false) }
+    ensures settled { IfOk result (λ t. (⟦<HostTables<S> as Tables>⟧.state t).honest
+        → IsSettled (⟦<HostTables<S> as Tables>⟧.state t)) }
 {
     SqlTables::open_lent(alloc, conn)
 }
@@ -99,6 +102,8 @@ pub(crate) fn adopt_tables<S: FilesAt>(
         → IsFound Two (file_state conn) (⟦<HostTables<S> as Tables>⟧.state t).rows) }
     ensures octets { IfOk result (λ t. HoldOctets (⟦<HostTables<S> as Tables>⟧.state t).rows) }
     ensures failed { IfOk result (λ t. (⟦<HostTables<S> as Tables>⟧.state t).failed ≡ false) }
+    ensures settled { IfOk result (λ t. (⟦<HostTables<S> as Tables>⟧.state t).honest
+        → IsSettled (⟦<HostTables<S> as Tables>⟧.state t)) }
     ensures again { (rows : List Row) → IsReopened (file_state conn) rows
         → IfOk result (λ t. (⟦<HostTables<S> as Tables>⟧.state t).honest
         → (⟦<HostTables<S> as Tables>⟧.state t).rows ≡ rows) }

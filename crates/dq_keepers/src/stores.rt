@@ -4,16 +4,12 @@ ghost use Rattle.sqlite_wal.specs.Files.{image_at};
 ghost use Rattle.sqlite.specs.State.{HasCleanDisk};
 ghost use Rattle.sqlite.specs.Files.{file_state};
 ghost use Rattle.dq_tables.specs.declared.row.Row.{Row};
-ghost use Rattle.dq_tables.specs.Sound.{IsSound};
+ghost use Rattle.dq_tables.specs.TableStates.{IsSettled};
 ghost use Rattle.dq_core.specs.Looking.{LeavesAlone};
 ghost use Rattle.dq_core.specs.Soundness.{HoldSound};
 ghost use Rattle.dq_sql.specs.declared.version.Version.{Version};
-ghost use Rattle.dq_sql.specs.declared.version.Version.TheVariants.{One};
-ghost use Rattle.dq_sql.specs.StoreCopies.{copied_rows};
-ghost use Rattle.dq_sql.specs.MigratedRows.{migrated_rows};
-ghost use Rattle.dq_sql.specs.Restarts.{ImageHoldsRows};
 ghost use Rattle.dq_keepers.specs.Closing.{HaveAlone, IsClosed};
-ghost use Rattle.dq_keepers.specs.Contents.{HoldsRowsOf, ShowsRowsOf, AsFarAsRead};
+ghost use Rattle.dq_keepers.specs.Contents.{HoldsRowsOf, ShowsRowsOf, AreHeld, AreCopied, AreMigrated};
 
 use crate::connections::{
     FilesAt, HostConnection, HostTables, adopt_tables, close_copy, close_tables, connect,
@@ -28,7 +24,7 @@ use sqlite::{Error, FileFrom, Files};
 use sqlite_disk::Disk;
 use std::alloc::Global;
 
-/// Makes a store without rows in new files.
+/// Makes a store without rows in new files. A crash then leaves no rows.
 pub fn create_store<S: FilesAt>(
     rt: &HostRuntime,
     alloc: Global,
@@ -36,6 +32,8 @@ pub fn create_store<S: FilesAt>(
 ) -> Result<HostTables<S>, StoreFault>
     ensures rows { IfOk result (λ t. (⟦<HostTables<S> as Tables>⟧.state t).rows ≡ []) }
     ensures failed { IfOk result (λ t. (⟦<HostTables<S> as Tables>⟧.state t).failed ≡ false) }
+    ensures settled { IfOk result (λ t. (⟦<HostTables<S> as Tables>⟧.state t).honest
+        → IsSettled (⟦<HostTables<S> as Tables>⟧.state t)) }
 {
     match create_tables(alloc, connect(rt, path)?) {
         Ok(tables) => Ok(tables),
@@ -56,19 +54,22 @@ fn connect_to_store<S: FilesAt>(rt: &HostRuntime, path: &str) -> Result<HostConn
 }
 
 /// Opens the store at a path, with the rows that its files hold: those that a crash left, as
-/// `dq_sql::laws::what_a_crash_leaves_is_adopted` says of the run before.
+/// `dq_sql::laws::what_a_crash_leaves_is_adopted` says of the run before. From then on a crash leaves
+/// these rows and no others, until they are changed.
 pub fn open_store<S: FilesAt>(
     rt: &HostRuntime,
     alloc: Global,
     path: &str,
 ) -> Result<HostTables<S>, StoreFault>
-    ensures rows { (rows : List Row) → path.now ≡ S.path
-        → ImageHoldsRows (image_at S.Start) rows → IsSound rows → IfOk result (λ t. (⟦<HostTables<S> as Tables>⟧.state t).honest
+    ensures rows { IfOk result (λ t. (⟦<HostTables<S> as Tables>⟧.state t).honest
+        → (rows : List Row) → path.now ≡ S.path → AreHeld (image_at S.Start) rows
         → (⟦<HostTables<S> as Tables>⟧.state t).rows ≡ rows) }
     // Whatever the files hold, the rows are sound, and each holds a data set.
     ensures sound { IfOk result (λ t. (⟦<HostTables<S> as Tables>⟧.state t).honest
         → HoldSound (⟦<HostTables<S> as Tables>⟧.state t).rows) }
     ensures failed { IfOk result (λ t. (⟦<HostTables<S> as Tables>⟧.state t).failed ≡ false) }
+    ensures settled { IfOk result (λ t. (⟦<HostTables<S> as Tables>⟧.state t).honest
+        → IsSettled (⟦<HostTables<S> as Tables>⟧.state t)) }
 {
     rows_stay_sound();
     octets_at(rt, path)?;
@@ -109,9 +110,9 @@ pub fn migrate_store<S: FilesAt>(
     from: &str,
     to: &str,
 ) -> Result<HostTables<S>, MigrateFault>
-    ensures { (rows : List Row) → from.now ≡ S.path → HoldsRowsOf One (image_at S.Start) rows
-        → IfOk result (λ t. AsFarAsRead ⟦<FileFrom<S> as Disk>⟧
-        ((⟦<HostTables<S> as Tables>⟧.state t).rows ≡ migrated_rows rows)) }
+    ensures { IfOk result (λ t. from.now ≡ S.path
+        → AreMigrated ⟦<FileFrom<S> as Disk>⟧ (image_at S.Start)
+        (⟦<HostTables<S> as Tables>⟧.state t).rows) }
 {
     let octets = octets_at(rt, from)?;
     let (mut old, new) = connect_both(rt, from, to)?;
@@ -137,10 +138,10 @@ pub fn copy_store<S: FilesAt>(
     only: &[&str],
 ) -> Result<Result<u64, StoreFault>, StoreFault>
     ensures { IfOk result (λ ended. IfOk ended (λ count. (kept : List Row)
-        × IsClosed ⟦<FileFrom<S> as Disk>⟧ kept × (length kept ≡ count)
-        × ((rows : List Row) → from.now ≡ S.path → ImageHoldsRows (image_at S.Start) rows
-        → IsSound rows → AsFarAsRead ⟦<FileFrom<S> as Disk>⟧
-        (kept ≡ copied_rows (map (λ name. name.now) only.now) rows)))) }
+        × IsClosed ⟦<FileFrom<S> as Disk>⟧ kept
+        × (from.now ≡ S.path → AreCopied ⟦<FileFrom<S> as Disk>⟧ (image_at S.Start)
+        (map (λ name. name.now) only.now) kept)
+        × (length kept ≡ count))) }
 {
     let octets = octets_at(rt, from)?;
     let (mut old, new) = connect_both::<S>(rt, from, to)?;

@@ -7,7 +7,6 @@ pub mod Shrinking
 pub mod Stream
 pub mod Holding
 pub mod Inboxes
-pub mod Roles
 pub mod Writing
 pub mod Widths
 pub mod Acceptances

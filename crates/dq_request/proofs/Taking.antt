@@ -1,8 +1,8 @@
 -- What a search takes of parts of a text, of which some are words.
-use Rattle.std.proofs.Common.{◌≡◌, ℕ, zero, suc, ◌<◌, List, [], ◌∷◌, ◌++◌, length, take, drop, filter, get_or, Bool, refl, sym, ap, ◌∙◌, subst, inl, inr, arith}
+use Rattle.std.proofs.Common.{◌≡◌, ℕ, zero, suc, ◌<◌, List, [], ◌∷◌, ◌++◌, length, take, drop, filter, get_or, Bool, sym, ap, subst, inl, inr, arith}
 use Rattle.std.proofs.lemmas.List.Elements.{filter-append}
 use Rattle.dq_request.specs.declared.search.Search.{Search}
-use Rattle.dq_request.specs.Searches.{TakesWord, TakesWords, StopsAt}
+use Rattle.dq_request.specs.Searches.{TakesWords, StopsAt}
 
 -- a list, parted at an item
 parted_at : (all : List (List ℕ)) (n : ℕ) (x : List ℕ) → n < length all → x ≡ get_or all n x

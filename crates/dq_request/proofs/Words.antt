@@ -8,7 +8,7 @@ use Rattle.dq_vr.specs.Dictionary.{known_vr}
 use Rattle.dq_json.specs.Keywords.{tag_named}
 use Rattle.dq_request.specs.declared.search.Key.{Key}
 use Rattle.dq_request.specs.declared.search.Search.{Search}
-use Rattle.dq_request.specs.Searches.{SpellsShort, GivesValue, GivesKey, HasEquals, name_in, text_in, TakesLimit, TakesOffset, TakesKey, TakesNamed, TakesWord, RefusesWord}
+use Rattle.dq_request.specs.Searches.{has_spellings, SpellsShort, GivesValue, GivesKey, HasEquals, name_in, text_in, TakesLimit, TakesOffset, TakesKey, TakesNamed, TakesWord, RefusesWord}
 
 no_text : (vr : Vr) → vr ≡ US → is_text vr ≡ true → ⊥
 unfolding is_text
@@ -17,11 +17,15 @@ no_text vr is text = cc
 no_uid : (vr : Vr) → vr ≡ US → vr ≡ UI → ⊥
 no_uid vr is uid = cc
 
+no_spellings : (vr : Vr) → vr ≡ US → has_spellings vr ≡ true → ⊥
+no_spellings vr is several = let none : has_spellings vr ≡ false = ap has_spellings is in cc
+
 short_by : (vr : Vr) (text octets : List ℕ) → vr ≡ US → text ≢ [] → GivesValue vr text octets → SpellsShort text octets
 short_by vr text octets is some (inl gives) = gives.2
 short_by vr text octets is some (inr (inl (uid, gives))) = absurd (no_uid vr is uid)
-short_by vr text octets is some (inr (inr (other, inl is_one, gives))) = absurd (no_text vr is is_one)
-short_by vr text octets is some (inr (inr (other, inr is_none, gives))) = absurd (some is_none)
+short_by vr text octets is some (inr (inr (inl (several, gives)))) = absurd (no_spellings vr is several)
+short_by vr text octets is some (inr (inr (inr (other, one, inl is_one, gives)))) = absurd (no_text vr is is_one)
+short_by vr text octets is some (inr (inr (inr (other, one, inr is_none, gives)))) = absurd (some is_none)
 
 -- to an unsigned short a text that is not empty gives its number
 pub short_given : {E : Type 0} (vr : Vr) (text : List ℕ) (r : Result (Option (List ℕ)) E) → vr ≡ US → text ≢ []

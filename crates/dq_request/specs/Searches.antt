@@ -1,16 +1,18 @@
 -- How words give a search its keys and its page, and the identifier that asks for them.
-use Rattle.std.specs.Prelude.{◌≡◌, ◌≢◌, ◌⊎◌, ◌==◌, ◌<◌, ◌≤◌, ◌^◌, ◌&&◌, not, ℕ, Bool, true, false, if◌then◌else◌, List, [], ◌∷◌, ◌++◌, length, map, filter, find, option_map, option_to_list, unwrap_or, codes, Option, Some, None}
-use Rattle.std.specs.List.{position_or_len, before_first, after_first}
+use Rattle.std.specs.Prelude.{◌≡◌, ◌≢◌, ◌⊎◌, ◌==◌, ◌<◌, ◌≤◌, ◌^◌, ◌&&◌, not, ℕ, Bool, true, false, if◌then◌else◌, List, [], ◌∷◌, ◌++◌, length, map, flat_map, filter, find, option_map, option_to_list, unwrap_or, codes, Option, Some, None}
+use Rattle.std.specs.List.{position_or_len, before_first, after_first, slice_split, join_with_byte}
+use Rattle.std.specs.Str.{is_utf8}
 use Rattle.std.specs.Int.{w16, to_le_bytes}
 use Rattle.std.specs.Str.Parse.{IsNumeral, digits_value, without_leading_plus}
 use Rattle.percent_encoding.specs.Percent.{percent_decode}
 use Rattle.dq_vr.specs.declared.Tag.{Tag}
 use Rattle.dq_vr.specs.declared.Vr.{Vr}
-use Rattle.dq_vr.specs.declared.Vr.TheVariants.{UI, US}
+use Rattle.dq_vr.specs.declared.Vr.TheVariants.{LO, PN, SH, UC, UI, US}
 use Rattle.dq_vr.specs.declared.tags.TheConstants.{SPECIFIC_CHARACTER_SET, QUERY_RETRIEVE_LEVEL, SCHEDULED_PROCEDURE_STEP_SEQUENCE}
 use Rattle.dq_vr.specs.Vr.{is_text}
 use Rattle.dq_vr.specs.Dictionary.{Entry, dictionary, known_vr}
 use Rattle.dq_json.specs.Keywords.{tag_named}
+use Rattle.dq_json.specs.Spellings.{spellings}
 use Rattle.dq_dataset.specs.Tree.{ElementList}
 use Rattle.dq_dataset.specs.Facts.{AreElements}
 use Rattle.dq_dataset.specs.Rules.{is_sequence, padded_value}
@@ -35,8 +37,9 @@ IsNumber bound text number = IsNumeral 10 (without_leading_plus text)
     × (digits_value 10 (without_leading_plus text) ≡ number) × (number < bound)
 
 -- A text gives an attribute of a VR a value: of an unsigned short its number; of UIDs their octets, with a comma or a
--- backslash between two (PS3.18 section 8.3.4.1); of text the octets, with %XX for one of them (RFC 3986 section 2.1).
--- An empty text gives any attribute the empty value.
+-- backslash between two (PS3.18 section 8.3.4.1); of text the octets, with %XX for one of them (RFC 3986 section 2.1),
+-- in each of their spellings where records may be in several character sets. An empty text gives any attribute the
+-- empty value.
 abbrev pub SpellsShort : List ℕ → List ℕ → Type 0
 SpellsShort text value = (number : ℕ) × IsNumber (2 ^ 16) text number × (value ≡ to_le_bytes w16 number)
 
@@ -49,10 +52,37 @@ uid_octet octet = if octet == 44 then 92 else octet
 abbrev pub SpellsUids : List ℕ → List ℕ → Type 0
 SpellsUids text value = (value ≡ map uid_octet (percent_decode text)) × (length (percent_decode text) ≤ value_most)
 
+-- text of these VRs is in the set that Specific Character Set names, and may have several values (PS3.5 section 6.1.2.2
+-- and table 6.2-1)
+abbrev pub has_spellings : Vr → Bool
+has_spellings LO = true
+has_spellings PN = true
+has_spellings SH = true
+has_spellings UC = true
+has_spellings vr = false
+
+abbrev pub backslash : ℕ
+backslash = 92
+
+abbrev pub is_backslash : ℕ → Bool
+is_backslash octet = octet == backslash
+
+-- the values of text, each in each of its spellings, with a backslash between two (PS3.5 section 6.4)
+abbrev pub all_spellings : List ℕ → List (List ℕ)
+all_spellings text = flat_map spellings (slice_split is_backslash text)
+
+-- Octets that are not UTF-8 are as they were given.
+unfoldable pub in_spellings : List ℕ → List ℕ
+in_spellings octets = if is_utf8 octets then join_with_byte backslash (all_spellings octets) else octets
+
+abbrev pub SpellsText : List ℕ → List ℕ → Type 0
+SpellsText text value = (value ≡ in_spellings (percent_decode text)) × (length (percent_decode text) ≤ value_most)
+
 abbrev pub GivesValue : Vr → List ℕ → List ℕ → Type 0
 GivesValue vr text value = ((vr ≡ US) × (text ≢ []) × SpellsShort text value)
     ⊎ (((vr ≡ UI) × SpellsUids text value)
-    ⊎ ((vr ≢ UI) × ((is_text vr ≡ true) ⊎ (text ≡ [])) × SpellsOctets text value))
+    ⊎ (((has_spellings vr ≡ true) × SpellsText text value)
+    ⊎ ((vr ≢ UI) × (has_spellings vr ≡ false) × ((is_text vr ≡ true) ⊎ (text ≡ [])) × SpellsOctets text value)))
 
 -- a name of PS3.6 chapter 6, or eight digits of a tag, and a text give this key
 abbrev pub GivesKey : List ℕ → List ℕ → Key → Type 0

@@ -1,11 +1,12 @@
 //! Laws of the definitions, which the contracts of functions with no body name.
-ghost use Rattle.std.specs.Prelude.{◌≡◌, ◌++◌, List, [], ◌∷◌, false, All, Contains};
+ghost use Rattle.std.specs.Prelude.{◌≡◌, ◌++◌, ℕ, List, [], ◌∷◌, false, All, Contains};
+ghost use Rattle.std.specs.Str.{IsAscii};
 ghost use Rattle.dq_vr.specs.declared.Tag.{Tag};
 ghost use Rattle.dq_vr.specs.Dictionary.{Entry, dictionary};
 ghost use Rattle.dq_dataset.specs.View.{elements_of};
 ghost use Rattle.dq_request.specs.declared.search.Key.{Key};
 ghost use Rattle.dq_request.specs.declared.search.Subject.{Subject};
-ghost use Rattle.dq_request.specs.Searches.{IsMatched, is_of_tag, matched_element, value_in, identifier_of};
+ghost use Rattle.dq_request.specs.Searches.{IsMatched, is_of_tag, matched_element, value_in, in_spellings, identifier_of};
 
 /// The identifier of each search has each attribute that keys match, with the value of its key.
 pub fn each_attribute_is_asked_for()
@@ -20,4 +21,9 @@ pub fn first_key_counts()
         → value_in (before ++ key ∷ after) key.tag ≡ key.value }
     ensures none { (keys : List Key) (tag : Tag) → All (λ key. is_of_tag tag key ≡ false) keys
         → value_in keys tag ≡ [] }
+{}
+
+/// ASCII is asked for as it was given: it is the same in each character set.
+pub fn ascii_is_asked_for_as_given()
+    ensures { (octets : List ℕ) → IsAscii octets → in_spellings octets ≡ octets }
 {}

@@ -7,6 +7,7 @@ pub mod laws;
 mod request;
 mod response;
 mod search;
+mod spelled_values;
 
 pub use request::Request;
 pub use response::{BackupError, Cause, Counted, Counts, Response};

@@ -2,9 +2,10 @@
 ghost use Rattle.std.specs.Prelude.{◌≡◌, ◌≢◌, ◌<◌, ◌≤◌, ◌^◌, ℕ, List, [], length, option_copied, find, Some, IfOk, IfSome, MatchOption, MatchBool};
 ghost use Rattle.percent_encoding.specs.Percent.{percent_decode};
 ghost use Rattle.dq_request.specs.declared.search.Subject.TheVariants.{Steps};
-ghost use Rattle.dq_request.specs.Searches.{IsNumber, SpellsShort, SpellsOctets, uid_octet, SpellsUids, GivesValue, GivesKey, HasEquals, name_in, text_in, TakesLimit, TakesOffset, TakesKey, TakesNamed, TakesWord, RefusesWord, GivesOctets, value_most, identifier_of};
+ghost use Rattle.dq_request.specs.Searches.{IsNumber, SpellsShort, SpellsOctets, uid_octet, SpellsUids, SpellsText, has_spellings, GivesValue, GivesKey, HasEquals, name_in, text_in, TakesLimit, TakesOffset, TakesKey, TakesNamed, TakesWord, RefusesWord, GivesOctets, value_most, identifier_of};
 
 use crate::identifier::{asked_identifier, worklist_identifier};
+use crate::spelled_values::in_spellings;
 use dq_dataset::DataSet;
 use dq_json::tag_named;
 use dq_list::Listed;
@@ -106,6 +107,24 @@ fn uids_of(alloc: Global, text: &str) -> Result<Option<Listed<u8>>, AllocError>
     Ok(Some(uids))
 }
 
+fn has_spellings(vr: Vr) -> bool
+    ensures { result ≡ has_spellings vr }
+{
+    matches!(vr, Vr::LO | Vr::PN | Vr::SH | Vr::UC)
+}
+
+/// The values that a text gives an attribute whose records may be in several character sets, each in each of
+/// its spellings.
+fn text_of(alloc: Global, text: &str) -> Result<Option<Listed<u8>>, AllocError>
+    ensures { IfOk result (λ value. MatchOption value (value_most < length (percent_decode text.now))
+        (SpellsText text.now)) }
+{
+    let Some(octets) = octets_of(alloc, text)? else {
+        return Ok(None);
+    };
+    Ok(Some(in_spellings(alloc, octets.as_slice())?))
+}
+
 /// The value that a text gives an attribute of a VR. Of others than text, UIDs and unsigned shorts only the
 /// empty one can be given.
 fn value_given(alloc: Global, vr: Vr, text: &str) -> Result<Option<Listed<u8>>, AllocError>
@@ -117,6 +136,9 @@ fn value_given(alloc: Global, vr: Vr, text: &str) -> Result<Option<Listed<u8>>, 
     }
     if vr == Vr::UI {
         return uids_of(alloc, text);
+    }
+    if has_spellings(vr) {
+        return text_of(alloc, text);
     }
     if !vr.is_text() && !text.is_empty() {
         return Ok(None);

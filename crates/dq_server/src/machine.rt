@@ -1,13 +1,13 @@
 //! The parts of the machine that the program needs.
 use dq_app::{Host, OpenError, Stores, Unclosed};
 use dq_keepers::{
-    CopyFault, RowsInFile, RowsInMemory, back_up, close_store, copy_store, create_store,
+    CopyFault, FilesAt, RowsInFile, RowsInMemory, back_up, close_store, copy_store, create_store,
     migrate_store, open_store,
 };
 use dq_request::BackupError;
 use dq_sql::{MigrateFault, StoreFault};
 use dq_tables::Tables;
-use sqlite::{FileFrom, Wary};
+use sqlite::{FileFrom, Start, Wary};
 use sqlite_disk::Disk;
 use std::alloc::{AllocError, Global};
 
@@ -58,21 +58,26 @@ fn backup_error(fault: CopyFault) -> BackupError {
 }
 
 impl Stores for Machine<'_> {
-    ghost use Rattle.std.specs.Prelude.{None};
+    ghost use Rattle.std.specs.Prelude.{◌≡◌};
+    ghost use Rattle.sqlite_wal.specs.Files.{image_at};
     ghost use Rattle.dq_keepers.specs.Closing.{IsClosed};
+    ghost use Rattle.dq_keepers.specs.Contents.{AreCopied, AreMigrated, AreHeld};
     ghost use Rattle.dq_keepers.proofs.Honest.{rows_in_memory_are_honest};
 
     type Memory = RowsInMemory;
 
     type File = RowsInFile;
 
-    // Known here is only what holds whatever a disk does. What files hold is known as far as their
-    // disk returns what was written, which the clauses of `dq_keepers` say.
-    ghost stored = { λ _ _. None };
+    // The files are those that `Wary` describes, of which it says as good as nothing: that is what code
+    // can know of them. The functions of `dq_keepers` say the same of whatever files hold.
+    ghost stored = { λ _ path rows. (path ≡ ⟦<Wary as FilesAt>⟧.path)
+        × AreHeld (image_at ⟦<Wary as Start>⟧) rows };
 
-    ghost migrated = { λ _ _. None };
+    ghost migrated = { λ _ from kept. from ≡ ⟦<Wary as FilesAt>⟧.path
+        → AreMigrated ⟦<FileFrom<Wary> as Disk>⟧ (image_at ⟦<Wary as Start>⟧) kept };
 
-    ghost copied = { λ _ _ _. None };
+    ghost copied = { λ _ from names kept. from ≡ ⟦<Wary as FilesAt>⟧.path
+        → AreCopied ⟦<FileFrom<Wary> as Disk>⟧ (image_at ⟦<Wary as Start>⟧) names kept };
 
     ghost closed = { λ _ rows. IsClosed ⟦<FileFrom<Wary> as Disk>⟧ rows };
 
@@ -138,6 +143,4 @@ impl Stores for Machine<'_> {
     }
 
     ghost memory_is_honest = { λ t. rows_in_memory_are_honest t };
-
-    ghost known_is_honest = { λ _ _ _ known. cc };
 }

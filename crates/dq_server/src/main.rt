@@ -3,6 +3,9 @@
 
 mod machine;
 
+ghost use Rattle.std.specs.Prelude.{◌≡◌, ◌≤◌};
+ghost use Rattle.std.specs.Io.KnownBytes.{Keeps};
+
 use dq_app::{Sink, Source, play_on, unworded};
 use machine::Machine;
 use std::env;
@@ -17,7 +20,11 @@ fn play_here<R: Source, W: Sink, E: Sink>(
     input: R,
     output: &mut W,
     errors: &mut E,
-) -> u8 {
+) -> u8
+    ensures statuses { result ≤ 5 }
+    ensures flushed { result ≡ 0 → W.is_flushed output.new }
+    ensures quiet { result ≡ 0 → Keeps (E.written errors.old) (E.written errors.new) }
+{
     play_on(&Machine { rt }, words, input, output, errors)
 }
 

@@ -1,5 +1,6 @@
 //! A bench of trials for data sets, for the suites: it reads octets that lines give, and answers
-//! the first fault or the canonical spellings, or what a list of tags leaves of them, or their JSON.
+//! the first fault or the canonical spellings, or what a list of tags leaves of them, or their JSON;
+//! or it reads JSON.
 #![tactic(auto)]
 
 mod cost;

@@ -1,8 +1,9 @@
-//! Trials: data sets as JSON, and attributes by their names.
+//! Trials: data sets as JSON and from JSON, and attributes by their names.
 ghost use Rattle.std.specs.Prelude.{◌<◌, ◌^◌, length};
 
-use dq_dataset::{ReadFault, Syntax, read};
-use dq_json::{json_of, tag_named};
+use crate::trial::octets_text;
+use dq_dataset::{PackedDataSet, ReadFault, Syntax, read};
+use dq_json::{JsonFault, data_set_of, json_of, tag_named};
 use std::alloc::{AllocError, Global};
 
 /// The JSON of the data set that octets spell, or `fault N`.
@@ -16,6 +17,18 @@ pub(crate) fn json_text(alloc: Global, octets: &[u8], syntax: Syntax) -> Result<
         }
         Err(ReadFault::NoMemory) => Err(AllocError),
         Err(fault) => format!(in alloc; "fault {}", fault.number()),
+    }
+}
+
+/// The canonical spelling of the data set that JSON spells, or the word of its fault.
+pub(crate) fn read_text(alloc: Global, octets: &[u8]) -> Result<String, AllocError> {
+    match data_set_of(alloc, octets) {
+        Ok(data_set) => {
+            let packed = PackedDataSet::new(alloc, &data_set)?;
+            octets_text(alloc, packed.into_octets().as_slice())
+        }
+        Err(JsonFault::NoMemory) => Err(AllocError),
+        Err(fault) => fault.text(alloc),
     }
 }
 

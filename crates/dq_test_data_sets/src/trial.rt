@@ -3,7 +3,7 @@ ghost use Rattle.std.specs.Prelude.{◌≡◌, ◌<◌, ◌^◌, length, string_
 ghost use Rattle.dq_dataset.specs.DataSetReader.{data_set_read};
 ghost use Rattle.dq_test_data_sets.specs.Answers.{reading_answer, spelled_octets, answer_text};
 
-use crate::named::{json_text, tag_text};
+use crate::named::{json_text, read_text, tag_text};
 use crate::sift::{Sifting, sifted_text, tags_of};
 use crate::stop::Stop;
 use dq_dataset::{ReadFault, Syntax, laws, read, write};
@@ -106,7 +106,7 @@ fn sifting_of(words: &str, syntax: Syntax) -> Option<Sifting> {
 }
 
 /// Returns the answer to the octets that follow the words: `implicit` or `explicit`, and before it
-/// `sift LIST FIRST EACH` if they are to be sifted, or `json`; or `tag` before a name.
+/// `sift LIST FIRST EACH` if they are to be sifted, or `json`; or `tag` before a name; or `read` before JSON.
 fn answer_by(alloc: Global, words: &str, octets: &[u8]) -> Result<Option<String>, AllocError>
     requires { length octets.now < 2 ^ 31 }
 {
@@ -115,6 +115,9 @@ fn answer_by(alloc: Global, words: &str, octets: &[u8]) -> Result<Option<String>
     }
     if words == "tag" {
         return Ok(Some(tag_text(alloc, octets)?));
+    }
+    if words == "read" {
+        return Ok(Some(read_text(alloc, octets)?));
     }
     let Some((words, name)) = words.rsplit_once(' ') else {
         return Ok(None);

@@ -1,3 +1,5 @@
-pub mod Among
+pub mod Opening
+pub mod Named
 pub mod Orders
 pub mod Taking
+pub mod Viewers

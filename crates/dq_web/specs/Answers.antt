@@ -5,6 +5,8 @@ use Rattle.std.specs.Str.{bytes_eq}
 use Rattle.json.specs.Print.{print}
 use Rattle.dq_config.specs.declared.config.Institution.{Institution}
 use Rattle.dq_dataset.specs.Tree.{ElementList}
+use Rattle.dq_json.specs.declared.json_fault.JsonFault.{JsonFault}
+use Rattle.dq_json.specs.Faults.{fault_text}
 use Rattle.dq_json.specs.Json.{json_tokens}
 use Rattle.dq_request.specs.declared.request.Request.{Request}
 use Rattle.dq_request.specs.declared.request.Request.TheVariants as ask
@@ -58,6 +60,10 @@ refused_reply status word =
 -- a word that no search takes
 abbrev pub misspelled_reply : List ℕ → Reply
 misspelled_reply word = refused_reply status.BadRequest (codes "keyword " ++ word)
+
+-- a body that is not DICOM JSON, and where (RFC 9110 section 15.5.1)
+abbrev pub unreadable_reply : JsonFault → Reply
+unreadable_reply fault = refused_reply status.BadRequest (fault_text fault)
 
 -- what the server answers to no such request
 abbrev pub server_reply : Reply
@@ -196,15 +202,14 @@ abbrev pub IsReplyTo : Question → Response → List Institution → Reply → 
 IsReplyTo question response institutions reply =
     IsReplyBy question.asked question.wish response institutions reply
 
--- a response of which this holds is written, as it is framed
-abbrev pub IsResponse : (Reply → Type 0) → Framing → Written → Type 0
-IsResponse Holds framing written = (reply : Reply) × Holds reply × (written.status ≡ reply.status)
+-- a response is written, as it is framed
+abbrev pub IsWritten : Reply → Framing → Written → Type 0
+IsWritten reply framing written = (written.status ≡ reply.status) × (written.kind ≡ framing.kind)
     × (written.octets.items ≡ response_text reply framing)
 
--- this response is
-abbrev pub IsWritten : Reply → Framing → Written → Type 0
-IsWritten reply framing written = (written.status ≡ reply.status)
-    × (written.octets.items ≡ response_text reply framing)
+-- a response is written of which this holds
+abbrev pub IsResponse : (Reply → Type 0) → Framing → Written → Type 0
+IsResponse Holds framing written = (reply : Reply) × Holds reply × IsWritten reply framing written
 
 -- the response to a request that the front refuses
 abbrev pub refusal_reply : Refusal → Reply
@@ -215,6 +220,10 @@ abbrev pub document_reply : Document → Reply
 document_reply document.Page = plain status.Done kind.Page INDEX.now
 document_reply document.Style = plain status.Done kind.Style STYLE.now
 document_reply document.Script = plain status.Done kind.Script SCRIPT.now
+
+-- leave is given to look
+abbrev pub preflight_reply : Reply
+preflight_reply = plain status.Preflight kind.Text []
 
 -- the front is there
 abbrev pub health_reply : Reply

@@ -1,5 +1,5 @@
 -- The questions that HTTP requests ask of the server.
-use Rattle.std.specs.Prelude.{◌≡◌, ◌⊎◌, ◌==◌, ℕ, ◌++◌, ◌&&◌, ◌||◌, not, nat_le, Bool, true, false, IsTrue, List, [], ◌∷◌, length, filter, codes, string_bytes, Option, Some, is_some, option_copied}
+use Rattle.std.specs.Prelude.{◌≡◌, ◌⊎◌, ◌==◌, ℕ, ◌++◌, ◌&&◌, ◌||◌, not, nat_le, if◌then◌else◌, Bool, true, false, IsTrue, List, [], ◌∷◌, length, filter, codes, string_bytes, Option, Some, is_some, option_copied}
 use Rattle.std.specs.List.{list_all, list_any, slice_split, starts_with}
 use Rattle.std.specs.Option.{option_and_then}
 use Rattle.std.specs.Str.{bytes_eq}
@@ -7,6 +7,11 @@ use Rattle.percent_encoding.specs.Percent.{percent_decode}
 use Rattle.dq_vr.specs.declared.Tag.{Tag}
 use Rattle.dq_vr.specs.declared.tags.TheConstants.{STUDY_INSTANCE_UID, SERIES_INSTANCE_UID}
 use Rattle.dq_vr.specs.Dictionary.{known_vr}
+use Rattle.dq_dataset.specs.declared.header.Syntax.TheVariants.{Explicit}
+use Rattle.dq_dataset.specs.Canonical.{canonical}
+use Rattle.dq_dataset.specs.Tree.{ElementList}
+use Rattle.dq_json.specs.declared.json_fault.JsonFault.{JsonFault}
+use Rattle.dq_json.specs.JsonReader.{Spells, HasFault}
 use Rattle.dq_json.specs.Keywords.{tag_named}
 use Rattle.dq_request.specs.declared.request.Request.{Request}
 use Rattle.dq_request.specs.declared.request.Request.TheVariants as ask
@@ -15,26 +20,39 @@ use Rattle.dq_request.specs.declared.search.Search.{Search}
 use Rattle.dq_request.specs.declared.search.Subject.{Subject}
 use Rattle.dq_request.specs.declared.search.Subject.TheVariants as subject
 use Rattle.dq_request.specs.Searches.{TakesWords, StopsAt, name_in}
+use Rattle.dq_web.specs.declared.cutting.BodyForm.{BodyForm}
+use Rattle.dq_web.specs.declared.cutting.BodyForm.TheVariants.{Dicom, DicomJson}
+use Rattle.dq_web.specs.declared.cutting.BodyForm.TheVariants as form
 use Rattle.dq_web.specs.declared.cutting.Fields.{Fields}
 use Rattle.dq_web.specs.declared.cutting.Head.{Head}
 use Rattle.dq_web.specs.declared.cutting.HttpRequest.{HttpRequest}
 use Rattle.dq_web.specs.declared.guard.Guard.{Guard}
+use Rattle.dq_web.specs.declared.guard.Openness.{Openness}
+use Rattle.dq_web.specs.declared.guard.Openness.TheVariants.{Closed, Tab, Viewer}
+use Rattle.dq_web.specs.declared.keys.Right.{Right}
+use Rattle.dq_web.specs.declared.keys.Right.TheVariants as right
 use Rattle.dq_web.specs.declared.resource.Resource.{Resource}
+use Rattle.dq_web.specs.declared.resource.ResourceKind.{ResourceKind}
+use Rattle.dq_web.specs.declared.resource.ResourceKind.TheVariants as kind
 use Rattle.dq_web.specs.declared.resource.Resource.TheVariants.{Page, Style, Script, Health, Metrics, Backup, Counts, Studies, Series, Images, Unsearched, Worklist, Entry, Steps}
 use Rattle.dq_web.specs.declared.parsed_request.Aim.{Aim}
+use Rattle.dq_web.specs.declared.parsed_request.Judgement.{Judgement}
+use Rattle.dq_web.specs.declared.parsed_request.Judgement.TheVariants as judgement
 use Rattle.dq_web.specs.declared.parsed_request.ParsedRequest.{ParsedRequest}
 use Rattle.dq_web.specs.declared.parsed_request.ParsedRequest.TheVariants as asked
 use Rattle.dq_web.specs.declared.parsed_request.Document.{Document}
 use Rattle.dq_web.specs.declared.parsed_request.Document.TheVariants as document
 use Rattle.dq_web.specs.declared.parsed_request.Method.{Method}
-use Rattle.dq_web.specs.declared.parsed_request.Method.TheVariants.{Get, Post, Delete, Other}
+use Rattle.dq_web.specs.declared.parsed_request.Method.TheVariants.{Get, Post, Delete, Preflight, Other}
 use Rattle.dq_web.specs.declared.parsed_request.Method.TheVariants as method
+use Rattle.dq_web.specs.declared.parsed_request.PartTest.{PartTest}
+use Rattle.dq_web.specs.declared.parsed_request.PartTest.TheVariants as test
 use Rattle.dq_web.specs.declared.parsed_request.Question.{Question}
 use Rattle.dq_web.specs.declared.parsed_request.Wanted.{Wanted}
 use Rattle.dq_web.specs.declared.parsed_request.Wanted.TheVariants as wanted
 use Rattle.dq_web.specs.declared.parsed_request.Wish.{Wish}
-use Rattle.dq_web.specs.Guards.{IsAdmitted, IsOpened}
-use Rattle.dq_web.specs.Resources.{IsPath, beneath}
+use Rattle.dq_web.specs.Guards.{is_preflight, IsSameOrigin, IsAdmitted, IsOpenedBy, IsOpened}
+use Rattle.dq_web.specs.Resources.{kind_of, IsPath, beneath}
 
 -- no space, no control and nothing past ASCII: 21H to 7EH
 abbrev pub is_visible : ℕ → Bool
@@ -60,7 +78,54 @@ IsMethod text Get = text ≡ codes "GET"
 IsMethod text method.Head = text ≡ codes "HEAD"
 IsMethod text Post = text ≡ codes "POST"
 IsMethod text Delete = text ≡ codes "DELETE"
+IsMethod text Preflight = text ≡ codes "OPTIONS"
 IsMethod text Other = Unit {0}
+
+-- leave is asked to look (the CORS-preflight request of the Fetch standard)
+abbrev pub is_leave_asked : Method → Bool
+is_leave_asked Preflight = true
+is_leave_asked by = false
+
+-- only for a page of the viewer's origin
+abbrev pub IsLeaveAsked : Guard → Fields → Method → Type 0
+IsLeaveAsked guard fields Preflight = IsTrue (is_preflight guard fields)
+IsLeaveAsked guard fields by = Unit {0}
+
+-- the method of a head
+pub record IsMethodOf (guard : Guard) (head : Head) (by : Method) : Type 0 where
+  pub text : IsMethod head.method.now by
+  pub leave : IsLeaveAsked guard head.fields by
+
+-- ---- what pages of other sites may send
+
+-- what an institution keeps is searched or counted there
+abbrev pub is_searched : Resource → Bool
+is_searched (Counts name) = true
+is_searched (Studies name) = true
+is_searched (Series name study) = true
+is_searched (Images name study series) = true
+is_searched (Unsearched name) = true
+is_searched (Worklist name) = true
+is_searched (Steps name) = true
+is_searched resource = false
+
+-- it changes nothing
+abbrev pub only_looks : Method → Bool
+only_looks Get = true
+only_looks method.Head = true
+only_looks Preflight = true
+only_looks by = false
+
+abbrev pub is_page : Resource → Bool
+is_page Page = true
+is_page resource = false
+
+-- The page for people may be opened from each site, in a tab. What is searched may be looked at by pages of the
+-- viewer's origin.
+abbrev pub openness_of : Resource → Method → Openness
+openness_of resource by = if is_page resource then Tab
+    else if is_searched resource && only_looks by then Viewer
+    else Closed
 
 -- whose key opens a resource: an institution's, or the operator's
 abbrev pub owner_of : Resource → List ℕ
@@ -73,6 +138,18 @@ owner_of (Worklist name) = name.now
 owner_of (Entry name id) = name.now
 owner_of (Steps name) = name.now
 owner_of resource = codes "*"
+
+-- the right that a method needs at an institution's resource: GET and HEAD read, POST and DELETE order
+abbrev pub institution_right : Method → Right
+institution_right Post = right.Order
+institution_right Delete = right.Order
+institution_right by = right.Read
+
+-- at a resource
+abbrev pub right_of : Resource → Method → Right
+right_of Metrics by = right.Metrics
+right_of Backup by = right.Backup
+right_of resource by = institution_right by
 
 -- ---- searches
 
@@ -156,23 +233,36 @@ abbrev pub IsBackup : List ℕ → Request → Type 0
 IsBackup body (ask.Backup path) = (string_bytes path ≡ body) × IsTrue (list_all is_printable body)
 IsBackup body request = ⊥
 
+-- the octets of an entry's data set, by a body of this form: its own, or those of the data set that it spells as DICOM
+-- JSON (PS3.18 annex F)
+abbrev pub AreEntryOctets : BodyForm → List ℕ → List ℕ → Type 0
+AreEntryOctets Dicom body octets = octets ≡ body
+AreEntryOctets DicomJson body octets = (d : ElementList) × Spells body d × (octets ≡ canonical Explicit d)
+AreEntryOctets form.Other body octets = ⊥
+
+-- an entry is to be kept
+abbrev pub Scheduling : List ℕ → BodyForm → List ℕ → Request → Type 0
+Scheduling name by body request =
+    (octets : List ℕ) × AreEntryOctets by body octets × (request ≡ ask.Schedule name octets)
+
 -- what POST asks of a resource
-abbrev pub Posting : Resource → List ℕ → Request → Type 0
-Posting (Worklist name) body request = request ≡ ask.Schedule name.now body
-Posting Backup body request = IsBackup body request
-Posting resource body request = ⊥
+abbrev pub Posting : Resource → BodyForm → List ℕ → Request → Type 0
+Posting (Worklist name) by body request = Scheduling name.now by body request
+Posting Backup by body request = IsBackup body request
+Posting resource by body request = ⊥
 
 -- what DELETE asks of a resource
 abbrev pub Deleting : Resource → Request → Type 0
 Deleting (Entry name id) request = request ≡ ask.Withdraw name.now (percent_decode id.now)
 Deleting resource request = ⊥
 
-abbrev pub Asks : Method → Resource → List ℕ → List ℕ → Request → Type 0
-Asks Get resource query body request = Looking resource query request
-Asks method.Head resource query body request = Looking resource query request
-Asks Post resource query body request = Posting resource body request
-Asks Delete resource query body request = Deleting resource request
-Asks Other resource query body request = ⊥
+abbrev pub Asks : Method → Resource → List ℕ → BodyForm → List ℕ → Request → Type 0
+Asks Get resource query by body request = Looking resource query request
+Asks method.Head resource query by body request = Looking resource query request
+Asks Post resource query by body request = Posting resource by body request
+Asks Delete resource query by body request = Deleting resource request
+Asks Preflight resource query by body request = ⊥
+Asks Other resource query by body request = ⊥
 
 -- what a search found is answered as JSON, which is accepted (RFC 9110 section 12.5.1)
 abbrev pub IsAccepted : Request → Fields → Type 0
@@ -188,6 +278,29 @@ IsMisspelledAt resource query part =
 abbrev pub IsLooked : Resource → Fields → List ℕ → Wanted → Type 0
 IsLooked resource fields query (wanted.Request request) = Looking resource query request × IsAccepted request fields
 IsLooked resource fields query (wanted.Misspelled part) = IsMisspelledAt resource query (string_bytes part)
+IsLooked resource fields query (wanted.Unreadable fault) = ⊥
+
+-- a body that is to be DICOM JSON, and is none for this reason
+abbrev pub IsUnreadableEntry : BodyForm → List ℕ → JsonFault → Type 0
+IsUnreadableEntry DicomJson body fault = HasFault body fault
+IsUnreadableEntry by body fault = ⊥
+
+-- only one for the worklist is
+abbrev pub IsUnreadableAt : Resource → BodyForm → List ℕ → JsonFault → Type 0
+IsUnreadableAt (Worklist name) by body fault = IsUnreadableEntry by body fault
+IsUnreadableAt resource by body fault = ⊥
+
+-- what POST comes to
+abbrev pub IsPosted : Resource → BodyForm → List ℕ → Wanted → Type 0
+IsPosted resource by body (wanted.Request request) = Posting resource by body request
+IsPosted resource by body (wanted.Misspelled part) = ⊥
+IsPosted resource by body (wanted.Unreadable fault) = IsUnreadableAt resource by body fault
+
+-- what it comes to at the worklist
+abbrev pub IsEntryPosted : List ℕ → BodyForm → List ℕ → Wanted → Type 0
+IsEntryPosted name by body (wanted.Request request) = Scheduling name by body request
+IsEntryPosted name by body (wanted.Misspelled part) = ⊥
+IsEntryPosted name by body (wanted.Unreadable fault) = IsUnreadableEntry by body fault
 
 abbrev pub IsGet : Method → Type 0
 IsGet Get = Unit {0}
@@ -197,9 +310,11 @@ IsGet by = ⊥
 -- what a head and a body come to
 abbrev pub IsWanted : Aim → Fields → List ℕ → Wanted → Type 0
 IsWanted aim fields body (wanted.Request request) =
-    Asks aim.method aim.resource aim.query.now body request × IsAccepted request fields
+    Asks aim.method aim.resource aim.query.now fields.body_form body request × IsAccepted request fields
 IsWanted aim fields body (wanted.Misspelled part) =
     IsGet aim.method × IsMisspelledAt aim.resource aim.query.now (string_bytes part)
+IsWanted aim fields body (wanted.Unreadable fault) =
+    (aim.method ≡ Post) × IsUnreadableAt aim.resource fields.body_form body fault
 
 -- whose key opens a request: that of the institution which it names, or the operator's
 abbrev pub owner_of_request : Request → List ℕ
@@ -209,6 +324,15 @@ owner_of_request ask.Report = codes "*"
 owner_of_request (ask.Schedule institution octets) = institution
 owner_of_request (ask.Withdraw institution id) = institution
 owner_of_request (ask.Backup path) = codes "*"
+
+-- the right that it needs
+abbrev pub right_of_request : Request → Right
+right_of_request (ask.Search search) = right.Read
+right_of_request (ask.Counts name) = right.Read
+right_of_request ask.Report = right.Metrics
+right_of_request (ask.Schedule institution octets) = right.Order
+right_of_request (ask.Withdraw institution id) = right.Order
+right_of_request (ask.Backup path) = right.Backup
 
 -- ---- who may ask
 
@@ -228,12 +352,8 @@ is_plain_segment segment = is_plain (percent_decode segment)
 abbrev pub is_plain_path : List ℕ → Bool
 is_plain_path path = list_all is_plain_segment (slice_split (λ octet. octet == 47) path)
 
-abbrev pub is_page : Resource → Bool
-is_page Page = true
-is_page resource = false
-
--- A head is let in as it aims: for a host of the front and from no page of another origin, at a path whose
--- segments are plain, by a method. A head of HTTP/1.1 has a Host (RFC 9112 section 3.2).
+-- A head is let in as it aims: for a host of the front and from no page of another origin to which it is not open, at a
+-- path whose segments are plain, by a method. A head of HTTP/1.1 has a Host (RFC 9112 section 3.2).
 pub record IsLetIn (guard : Guard) (head : Head) (aim : Aim) : Type 0 where
   pub host : List ℕ
   pub text : List ℕ
@@ -244,8 +364,8 @@ pub record IsLetIn (guard : Guard) (head : Head) (aim : Aim) : Type 0 where
   pub split : IsPathAndQuery text path aim.query.now
   pub plain : IsTrue (is_plain_path path)
   pub at_resource : IsPath path aim.resource
-  pub by_method : IsMethod head.method.now aim.method
-  pub admitted : IsAdmitted guard.host host (is_page aim.resource) head.fields
+  pub by_method : IsMethodOf guard head aim.method
+  pub admitted : IsAdmitted guard host (openness_of aim.resource aim.method) head.fields
 
 -- what everybody may see
 abbrev pub is_open : Resource → Bool
@@ -255,31 +375,46 @@ is_open Script = true
 is_open Health = true
 is_open resource = false
 
--- a head is let in, and the resource is open to all, or the key opens it
-abbrev pub IsJudged : Guard → Head → Type 0
-IsJudged guard head = (aim : Aim) × IsLetIn guard head aim
-    × (IsTrue (is_open aim.resource) ⊎ IsOpened guard.keys (owner_of aim.resource) (option_copied head.fields.authorization))
+-- Nothing is said of when a head is refused. Otherwise it is let in, and it only asks leave to look, or the resource is
+-- open to all, or this entry's key opens it.
+abbrev pub IsJudged : Guard → Head → Judgement → Type 0
+IsJudged guard head (judgement.Refused refusal) = Unit {0}
+IsJudged guard head judgement.Open = (aim : Aim) × IsLetIn guard head aim
+    × IsTrue (is_leave_asked aim.method || is_open aim.resource)
+IsJudged guard head (judgement.Opened entry) = (aim : Aim) × IsLetIn guard head aim
+    × IsOpenedBy guard.keys (owner_of aim.resource) (right_of aim.resource aim.method)
+    (option_copied head.fields.authorization) entry.now
+
+-- the label of the key that let a head in, if it has one
+abbrev pub label_of : Judgement → List ℕ
+label_of (judgement.Opened entry) = entry.now.label
+label_of judgement = []
 
 -- a part of a query asks for fuzzy matching (PS3.18 section 8.3.4.2)
 abbrev pub is_fuzzy : List ℕ → Bool
 is_fuzzy part = bytes_eq part (codes "fuzzymatching=true")
+
+-- a part of a query passes a test
+abbrev pub passes_part : PartTest → List ℕ → Bool
+passes_part test.Fuzzy part = is_fuzzy part
+passes_part test.Unknown part = is_unknown part
 
 -- how the answers to a search are wanted: where none is found an empty array, in place of no content, where an
 -- Accept allows DICOM JSON; whether matching is to be fuzzy; and whether a parameter is unknown
 abbrev pub wish_of : Fields → List ℕ → Wish
 wish_of fields query = record {
   wants_array = fields.asks_dicom_json;
-  is_fuzzy = list_any is_fuzzy (parts_of query);
-  has_unknown = list_any is_unknown (parts_of query);
+  is_fuzzy = list_any (passes_part test.Fuzzy) (parts_of query);
+  has_unknown = list_any (passes_part test.Unknown) (parts_of query);
 }
 
--- A request of HTTP asks a question: it is let in, its key opens the resource, its path, method, query and body say what
--- is asked, and JSON is accepted where a search is.
+-- A request of HTTP asks a question: it is let in, its key opens the resource with the right that this needs, its path,
+-- method, query and body say what is asked, and JSON is accepted where a search is.
 pub record IsQuestion (guard : Guard) (request : HttpRequest) (question : Question) : Type 0 where
   pub aim : Aim
   pub let_in : IsLetIn guard request.head aim
-  pub opened : IsOpened guard.keys (owner_of aim.resource) (option_copied request.head.fields.authorization)
-  pub asks : Asks aim.method aim.resource aim.query.now request.body.now question.asked
+  pub opened : IsOpened guard.keys (owner_of aim.resource) (right_of aim.resource aim.method) (option_copied request.head.fields.authorization)
+  pub asks : Asks aim.method aim.resource aim.query.now request.head.fields.body_form request.body.now question.asked
   pub wish : question.wish ≡ wish_of request.head.fields aim.query.now
   pub accepted : IsAccepted question.asked request.head.fields
 
@@ -287,9 +422,17 @@ pub record IsQuestion (guard : Guard) (request : HttpRequest) (question : Questi
 pub record IsMisspelled (guard : Guard) (request : HttpRequest) (word : List ℕ) : Type 0 where
   pub aim : Aim
   pub let_in : IsLetIn guard request.head aim
-  pub opened : IsOpened guard.keys (owner_of aim.resource) (option_copied request.head.fields.authorization)
+  pub opened : IsOpened guard.keys (owner_of aim.resource) (right_of aim.resource aim.method) (option_copied request.head.fields.authorization)
   pub by_get : IsGet aim.method
   pub at : IsMisspelledAt aim.resource aim.query.now word
+
+-- The body of POST is to be DICOM JSON, and is none for this reason.
+pub record IsUnreadable (guard : Guard) (request : HttpRequest) (fault : JsonFault) : Type 0 where
+  pub aim : Aim
+  pub let_in : IsLetIn guard request.head aim
+  pub opened : IsOpened guard.keys (owner_of aim.resource) (right_of aim.resource aim.method) (option_copied request.head.fields.authorization)
+  pub by_post : aim.method ≡ Post
+  pub at : IsUnreadableAt aim.resource request.head.fields.body_form request.body.now fault
 
 -- where a document of the page stands
 abbrev pub document_resource : Document → Resource
@@ -302,9 +445,22 @@ abbrev pub IsAsked : Guard → HttpRequest → ParsedRequest → Type 0
 IsAsked guard request (asked.Question question) = IsQuestion guard request question
 IsAsked guard request (asked.Refused refusal) = Unit {0}
 IsAsked guard request (asked.Misspelled word) = IsMisspelled guard request (string_bytes word)
+IsAsked guard request (asked.Unreadable fault) = IsUnreadable guard request fault
 IsAsked guard request (asked.Document document) =
     (aim : Aim) × IsLetIn guard request.head aim × (aim.resource ≡ document_resource document)
 IsAsked guard request asked.Health = (aim : Aim) × IsLetIn guard request.head aim × (aim.resource ≡ Health)
+IsAsked guard request asked.Preflight = (aim : Aim) × IsLetIn guard request.head aim × IsTrue (is_leave_asked aim.method)
+
+-- a resource is at the path of a head
+abbrev pub IsResourceAt : Head → Resource → Type 0
+IsResourceAt head resource = (host : List ℕ) × (text : List ℕ) × (path : List ℕ) × (query : List ℕ)
+    × IsTarget head.target.now (option_copied head.fields.host) host text × IsPathAndQuery text path query
+    × IsPath path resource
+
+-- the kind of one that is
+abbrev pub IsKindAt : Head → ResourceKind → Type 0
+IsKindAt head what = (what ≡ kind.Nowhere)
+    ⊎ ((resource : Resource) × IsResourceAt head resource × (what ≡ kind_of resource))
 
 -- ---- laws
 
@@ -314,6 +470,11 @@ IsLook (ask.Search search) = Unit {0}
 IsLook (ask.Counts name) = Unit {0}
 IsLook ask.Report = Unit {0}
 IsLook request = ⊥
+
+-- a page of another site sent a head: its Origin is not that of the host to which it came
+abbrev pub IsForeign : Head → Type 0
+IsForeign head = (host text : List ℕ) → IsTarget head.target.now (option_copied head.fields.host) host text
+    → IsSameOrigin host (option_copied head.fields.origin) → ⊥
 
 -- a request of HTTP has this path
 abbrev pub IsAtPath : HttpRequest → List ℕ → Type 0
@@ -325,11 +486,11 @@ IsAtPath request path = (host : List ℕ) × (text : List ℕ) × (query : List 
 abbrev pub IsCall : HttpRequest → List ℕ → List ℕ → Type 0
 IsCall request word path = IsAtPath request path × (request.head.method.now ≡ word)
 
--- POST of a body at the worklist of an institution, which is to be scheduled there
+-- POST of an entry at the worklist of an institution, which is to be scheduled there
 abbrev pub IsScheduling : HttpRequest → List ℕ → List ℕ → Type 0
 IsScheduling request institution octets =
     IsCall request (codes "POST") (codes "/" ++ beneath institution (codes "worklist"))
-    × (octets ≡ request.body.now)
+    × AreEntryOctets request.head.fields.body_form request.body.now octets
 
 -- DELETE of an entry of that worklist, which is to be taken away there
 abbrev pub IsWithdrawing : HttpRequest → List ℕ → List ℕ → Type 0

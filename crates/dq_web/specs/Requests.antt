@@ -1,11 +1,13 @@
 -- Requests of HTTP, as they stand in the octets of a connection (RFC 9112).
-use Rattle.std.specs.Prelude.{◌≡◌, ℕ, ◌+◌, ◌<◌, ◌≤◌, ◌++◌, ◌==◌, ◌||◌, ◌&&◌, not, Bool, true, false, List, length, map, filter, drop, codes, Option, Some, None, option_to_list, option_copied}
+use Rattle.std.specs.Prelude.{◌≡◌, ℕ, ◌+◌, ◌<◌, ◌≤◌, ◌++◌, ◌==◌, ◌||◌, ◌&&◌, not, if◌then◌else◌, Bool, true, false, List, [], ◌∷◌, length, map, filter, drop, codes, Option, Some, None, option_to_list, option_copied}
 use Rattle.std.specs.Char.{to_ascii_lowercase}
 use Rattle.std.specs.List.{list_any, slice_split}
 use Rattle.std.specs.Str.{bytes_eq}
 use Rattle.std.specs.Str.Parse.{IsNumeral, digits_value}
 use Rattle.httparse.specs.Grammar.{RequestHead, ReadsRequest, HasNoRequest, print_request}
 use Rattle.httparse.specs.Spans.{name_and_value}
+use Rattle.dq_web.specs.declared.cutting.BodyForm.{BodyForm}
+use Rattle.dq_web.specs.declared.cutting.BodyForm.TheVariants as form
 use Rattle.dq_web.specs.declared.cutting.Cut.{Cut}
 use Rattle.dq_web.specs.declared.cutting.Cut.TheVariants.{Unfinished, Begun, Whole, Refused}
 use Rattle.dq_web.specs.declared.cutting.Fields.{Fields}
@@ -30,6 +32,11 @@ values_named name fields =
 abbrev pub IsSole : List ℕ → List (List ℕ × List ℕ) → Option (List ℕ) → Type 0
 IsSole name fields found = values_named name fields ≡ option_to_list found
 
+-- the value of the last field with the name, or no field has it
+abbrev pub IsLast : List ℕ → List (List ℕ × List ℕ) → Option (List ℕ) → Type 0
+IsLast name fields None = values_named name fields ≡ []
+IsLast name fields (Some value) = (others : List (List ℕ)) × (values_named name fields ≡ others ++ value ∷ [])
+
 -- what stands between the words of a list: a comma, a blank beside one, or a semicolon before a parameter
 -- (RFC 9110 sections 5.6.1 and 5.6.6)
 abbrev pub is_between : ℕ → Bool
@@ -48,12 +55,20 @@ is_dicom_json_range word = is_named word (codes "application/dicom+json")
 abbrev pub is_json_range : List ℕ → Bool
 is_json_range word = is_dicom_json_range word || is_named word (codes "application/json")
 
+-- a media type under which a data set is sent: its own (PS3.18 section 8.7.3), that of any octets (RFC 2046 section
+-- 4.5.1), or the one that senders give what they know no type of
+abbrev pub is_dicom_type : List ℕ → Bool
+is_dicom_type word = is_named word (codes "application/dicom")
+    || (is_named word (codes "application/octet-stream") || is_named word (codes "application/x-www-form-urlencoded"))
+
 -- a word of a list passes a test
 abbrev pub passes_word : Test → List ℕ → Bool
 passes_word test.Present word = true
 passes_word test.Close word = is_close word
 passes_word test.DicomJson word = is_dicom_json_range word
 passes_word test.Json word = is_json_range word
+passes_word test.JsonBody word = is_named word (codes "application/dicom+json")
+passes_word test.DicomBody word = is_dicom_type word
 
 -- one of the words of a list does
 abbrev pub passes : Test → List ℕ → Bool
@@ -63,21 +78,32 @@ passes wanted list = list_any (passes_word wanted) (slice_split is_between list)
 abbrev pub any_passes : Test → List ℕ → List (List ℕ × List ℕ) → Bool
 any_passes wanted name pairs = list_any (passes wanted) (values_named name pairs)
 
--- The values of the fields that count. Connection and Accept are lists, and may stand more than once; each
--- other one stands once at most. Where no Accept says so, JSON is accepted.
+-- The form of the body: what a Content-Type says, and a data set where there is none (RFC 9110 section 8.3).
+abbrev pub body_form : List (List ℕ × List ℕ) → BodyForm
+body_form pairs =
+    if any_passes test.JsonBody (codes "content-type") pairs then form.DicomJson
+    else (if any_passes test.DicomBody (codes "content-type") pairs then form.Dicom
+    else (if any_passes test.Present (codes "content-type") pairs then form.Other else form.Dicom))
+
+-- The values of the fields that count. Connection and Accept are lists, and may stand more than once; so may what
+-- proxies say, of which the last counts; each other one stands once at most. Where no Accept says so, JSON is accepted.
 pub record AreFields (pairs : List (List ℕ × List ℕ)) (fields : Fields) : Type 0 where
   pub host : IsSole (codes "host") pairs (option_copied fields.host)
   pub origin : IsSole (codes "origin") pairs (option_copied fields.origin)
   pub fetch_site : IsSole (codes "sec-fetch-site") pairs (option_copied fields.fetch_site)
   pub fetch_dest : IsSole (codes "sec-fetch-dest") pairs (option_copied fields.fetch_dest)
+  pub request_method : IsSole (codes "access-control-request-method") pairs (option_copied fields.request_method)
   pub authorization : IsSole (codes "authorization") pairs (option_copied fields.authorization)
   pub expect : IsSole (codes "expect") pairs (option_copied fields.expect)
+  pub forwarded_for : IsLast (codes "x-forwarded-for") pairs (option_copied fields.forwarded_for)
+  pub forwarded : IsLast (codes "forwarded") pairs (option_copied fields.forwarded)
   pub content_length : IsSole (codes "content-length") pairs (option_copied fields.content_length)
   pub transfer_encoding : IsSole (codes "transfer-encoding") pairs (option_copied fields.transfer_encoding)
   pub closes : fields.closes ≡ any_passes test.Close (codes "connection") pairs
   pub accepts_json : fields.accepts_json ≡ (any_passes test.Json (codes "accept") pairs
       || not (any_passes test.Present (codes "accept") pairs))
   pub asks_dicom_json : fields.asks_dicom_json ≡ any_passes test.DicomJson (codes "accept") pairs
+  pub form : fields.body_form ≡ body_form pairs
 
 -- a number of octets, at most 1 MiB, in decimal digits
 abbrev pub IsContentLength : List ℕ → ℕ → Type 0

@@ -2,7 +2,27 @@
 -- its worklist, of its procedure steps and of its counts.
 use Rattle.std.specs.Prelude.{◌≡◌, ◌⊎◌, ℕ, ◌++◌, List, codes}
 use Rattle.dq_web.specs.declared.resource.Resource.{Resource}
+use Rattle.dq_web.specs.declared.resource.ResourceKind.{ResourceKind}
+use Rattle.dq_web.specs.declared.resource.ResourceKind.TheVariants as kind
 use Rattle.dq_web.specs.declared.resource.Resource.TheVariants.{Page, Style, Script, Health, Metrics, Backup, Counts, Studies, Series, Images, Unsearched, Worklist, Entry, Steps, Nowhere}
+
+-- the kind of a resource, by which requests are counted
+abbrev pub kind_of : Resource → ResourceKind
+kind_of (Studies name) = kind.Studies
+kind_of (Series name study) = kind.Series
+kind_of (Images name study series) = kind.Instances
+kind_of (Worklist name) = kind.Worklist
+kind_of (Entry name id) = kind.Worklist
+kind_of (Steps name) = kind.Steps
+kind_of (Counts name) = kind.Counts
+kind_of Page = kind.Page
+kind_of Style = kind.Page
+kind_of Script = kind.Page
+kind_of Health = kind.Health
+kind_of Metrics = kind.Metrics
+kind_of Backup = kind.Backup
+kind_of (Unsearched name) = kind.Nowhere
+kind_of Nowhere = kind.Nowhere
 
 -- a name, a slash, and what is below it
 abbrev pub beneath : List ℕ → List ℕ → List ℕ

@@ -11,13 +11,14 @@ use Rattle.dq_web.specs.declared.replies.Kind.{Kind}
 use Rattle.dq_web.specs.declared.replies.Kind.TheVariants as kind
 use Rattle.dq_web.specs.declared.replies.Reply.{Reply}
 use Rattle.dq_web.specs.declared.status.Status.{Status}
-use Rattle.dq_web.specs.declared.status.Status.TheVariants.{Done, Created, NoContent, BadRequest, Unauthorized, Forbidden, NotFound, MethodNotAllowed, NotAcceptable, RequestTimeout, Conflict, TooLarge, Misdirected, HeadTooLarge, ServerError, NotImplemented, Unavailable, Full}
+use Rattle.dq_web.specs.declared.status.Status.TheVariants.{Done, Created, NoContent, Preflight, BadRequest, Unauthorized, Forbidden, NotFound, MethodNotAllowed, NotAcceptable, RequestTimeout, Conflict, TooLarge, UnsupportedMediaType, Misdirected, HeadTooLarge, ServerError, NotImplemented, Unavailable, Full}
 
 -- the status code and the reason phrase (RFC 9110 section 15; of 507 RFC 4918 section 11.5)
 abbrev pub status_line : Status → List ℕ
 status_line Done = codes "200 OK"
 status_line Created = codes "201 Created"
 status_line NoContent = codes "204 No Content"
+status_line Preflight = codes "204 No Content"
 status_line BadRequest = codes "400 Bad Request"
 status_line Unauthorized = codes "401 Unauthorized"
 status_line Forbidden = codes "403 Forbidden"
@@ -27,6 +28,7 @@ status_line NotAcceptable = codes "406 Not Acceptable"
 status_line RequestTimeout = codes "408 Request Timeout"
 status_line Conflict = codes "409 Conflict"
 status_line TooLarge = codes "413 Content Too Large"
+status_line UnsupportedMediaType = codes "415 Unsupported Media Type"
 status_line Misdirected = codes "421 Misdirected Request"
 status_line HeadTooLarge = codes "431 Request Header Fields Too Large"
 status_line ServerError = codes "500 Internal Server Error"
@@ -45,7 +47,9 @@ refusal_status refusal.Origin = Forbidden
 refusal_status refusal.Path = NotFound
 refusal_status (refusal.Method methods) = MethodNotAllowed methods
 refusal_status refusal.Key = Unauthorized
+refusal_status refusal.Right = Forbidden
 refusal_status refusal.Accept = NotAcceptable
+refusal_status refusal.MediaType = UnsupportedMediaType
 refusal_status refusal.Unsupported = NotImplemented
 refusal_status refusal.Time = RequestTimeout
 
@@ -60,7 +64,9 @@ refusal_word refusal.Origin = codes "origin"
 refusal_word refusal.Path = codes "path"
 refusal_word (refusal.Method methods) = codes "method"
 refusal_word refusal.Key = codes "key"
+refusal_word refusal.Right = codes "right"
 refusal_word refusal.Accept = codes "accept"
+refusal_word refusal.MediaType = codes "media type"
 refusal_word refusal.Unsupported = codes "unsupported"
 refusal_word refusal.Time = codes "time"
 
@@ -69,6 +75,7 @@ abbrev pub status_code : Status → ℕ
 status_code Done = 200
 status_code Created = 201
 status_code NoContent = 204
+status_code Preflight = 204
 status_code BadRequest = 400
 status_code Unauthorized = 401
 status_code Forbidden = 403
@@ -78,6 +85,7 @@ status_code NotAcceptable = 406
 status_code RequestTimeout = 408
 status_code Conflict = 409
 status_code TooLarge = 413
+status_code UnsupportedMediaType = 415
 status_code Misdirected = 421
 status_code HeadTooLarge = 431
 status_code ServerError = 500
@@ -107,8 +115,12 @@ guarding_fields =
     ++ codes "Content-Security-Policy: default-src 'none'; script-src 'self'; style-src 'self'; "
     ++ codes "connect-src 'self'; base-uri 'none'; form-action 'none'; frame-ancestors 'none'\r\n"
 
--- the fields that a status asks for (RFC 9110 sections 11.6.1 and 10.2.1)
+-- the fields that a status asks for (RFC 9110 sections 11.6.1 and 10.2.1, and the CORS-preflight response of the Fetch
+-- standard: leave for ten minutes to look, with a key)
 abbrev pub extra_fields : Status → List ℕ
+extra_fields Preflight = codes "Access-Control-Allow-Methods: GET, HEAD\r\n"
+    ++ codes "Access-Control-Allow-Headers: Accept, Authorization\r\n"
+    ++ codes "Access-Control-Max-Age: 600\r\n"
 extra_fields Unauthorized = codes "WWW-Authenticate: Bearer" ++ line_end
 extra_fields (MethodNotAllowed allowed.Get) = codes "Allow: GET, HEAD" ++ line_end
 extra_fields (MethodNotAllowed allowed.Post) = codes "Allow: POST" ++ line_end
@@ -119,6 +131,7 @@ extra_fields status = []
 -- a response of 204 has no content (RFC 9110 section 15.3.5)
 abbrev pub has_content : Status → Bool
 has_content NoContent = false
+has_content Preflight = false
 has_content status = true
 
 -- what the body is (RFC 9110 section 8.3)
@@ -149,6 +162,15 @@ abbrev pub date_field : Option HttpDate → List ℕ
 date_field None = []
 date_field (Some date) = codes "Date: " ++ (date_text date ++ line_end)
 
+-- pages of this origin may read the response, and the warnings in its head (the CORS protocol of the Fetch standard)
+abbrev pub origin_field : List ℕ → List ℕ
+origin_field origin = codes "Access-Control-Allow-Origin: " ++ (origin ++ line_end)
+
+abbrev pub viewer_fields : Option (List ℕ) → List ℕ
+viewer_fields None = []
+viewer_fields (Some origin) =
+    origin_field origin ++ codes "Access-Control-Expose-Headers: Warning\r\nVary: Origin\r\n"
+
 -- fuzzy matching was asked for, and there is none (PS3.18 section 8.3.4.2)
 abbrev pub literal_field : Bool → List ℕ
 literal_field true = codes "Warning: 299 newtiron \"The fuzzymatching parameter is not supported. "
@@ -172,7 +194,7 @@ warning_fields reply =
 
 abbrev pub whole_head_text : Reply → Framing → List ℕ
 whole_head_text reply framing = head_text reply.status ++ date_field framing.date
-    ++ closing_field framing.is_last ++ warning_fields reply
+    ++ closing_field framing.is_last ++ viewer_fields framing.viewer ++ warning_fields reply
     ++ body_fields reply.status reply.kind (length reply.body) ++ line_end
 
 -- a response to HEAD is that to GET without its content (RFC 9110 section 9.3.2)

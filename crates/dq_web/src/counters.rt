@@ -1,7 +1,10 @@
 //! Counts that the server keeps of itself for the operator. Each sum stops at the most that it can
 //! hold.
-ghost use Rattle.std.specs.Prelude.{◌≡◌};
-ghost use Rattle.dq_web.specs.Counting.{one_more, one_less, class_of, after, within, Served, turns_after};
+ghost use Rattle.std.specs.Prelude.{◌≡◌, ◌<◌, ◌≤◌};
+ghost use Rattle.dq_web.specs.Counting.{one_more, one_less, class_of, after, within, Served, turns_after, row_of, column_of, place_of, count_of, with_request};
+
+use crate::resource::ResourceKind;
+use crate::status::Status;
 
 /// The services whose operations are counted.
 #[derive(Clone, Copy, Debug, PartialEq, Eq)]
@@ -45,6 +48,18 @@ pub struct Turns {
     pub micros: u64,
 }
 
+/// How many kinds of resources there are, and how many statuses.
+const KINDS: usize = 11;
+
+const STATUSES: usize = 19;
+
+/// How many requests of the web front were answered, by the kind of their resource and the status of
+/// the response: a row of all statuses for each kind.
+#[derive(Clone, Copy, Debug, Default, PartialEq, Eq)]
+pub struct RequestCounts {
+    counts: [u64; KINDS * STATUSES],
+}
+
 /// The server's counts of itself since it started.
 #[derive(Clone, Copy, Debug, Default, PartialEq, Eq)]
 pub struct Counters {
@@ -61,6 +76,7 @@ pub struct Counters {
     pub step: Operations,
     pub turns: Turns,
     pub memory: u64,
+    pub requests: RequestCounts,
 }
 
 /// The class of a status: success, warning, pending, or else refused.
@@ -136,6 +152,78 @@ impl Turns {
             all: one_more(self.all),
             micros: self.micros.saturating_add(micros),
         }
+    }
+}
+
+/// The row of a kind.
+fn row_of(kind: ResourceKind) -> usize
+    ensures row { result ≡ row_of kind }
+    ensures within { result ≤ 10 }
+{
+    match kind {
+        ResourceKind::Studies => 0,
+        ResourceKind::Series => 1,
+        ResourceKind::Instances => 2,
+        ResourceKind::Worklist => 3,
+        ResourceKind::Steps => 4,
+        ResourceKind::Counts => 5,
+        ResourceKind::Page => 6,
+        ResourceKind::Health => 7,
+        ResourceKind::Metrics => 8,
+        ResourceKind::Backup => 9,
+        ResourceKind::Nowhere => 10,
+    }
+}
+
+/// The column of a status.
+fn column_of(status: Status) -> usize
+    ensures column { result ≡ column_of status }
+    ensures within { result ≤ 18 }
+{
+    match status {
+        Status::Done => 0,
+        Status::Created => 1,
+        Status::NoContent | Status::Preflight => 2,
+        Status::BadRequest => 3,
+        Status::Unauthorized => 4,
+        Status::Forbidden => 5,
+        Status::NotFound => 6,
+        Status::MethodNotAllowed(_) => 7,
+        Status::NotAcceptable => 8,
+        Status::RequestTimeout => 9,
+        Status::Conflict => 10,
+        Status::TooLarge => 11,
+        Status::UnsupportedMediaType => 12,
+        Status::Misdirected => 13,
+        Status::HeadTooLarge => 14,
+        Status::ServerError => 15,
+        Status::NotImplemented => 16,
+        Status::Unavailable => 17,
+        Status::Full => 18,
+    }
+}
+
+fn place_of(kind: ResourceKind, status: Status) -> usize
+    ensures place { result ≡ place_of kind status }
+    ensures within { result < 209 }
+{
+    row_of(kind) * STATUSES + column_of(status)
+}
+
+impl RequestCounts {
+    /// Counts a request for a resource of a kind that was answered with a status.
+    pub fn count(&mut self, kind: ResourceKind, status: Status)
+        ensures { self.new ≡ with_request kind status self.old }
+    {
+        let at = place_of(kind, status);
+        self.counts[at] = one_more(self.counts[at]);
+    }
+
+    /// Returns how many requests for resources of a kind were answered with a status.
+    pub(crate) fn of(&self, kind: ResourceKind, status: Status) -> u64
+        ensures { result ≡ count_of kind status self.now }
+    {
+        self.counts[place_of(kind, status)]
     }
 }
 

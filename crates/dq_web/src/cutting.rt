@@ -2,7 +2,7 @@
 ghost use Rattle.std.specs.Prelude.{◌≡◌, ◌≤◌, ◌||◌, ◌==◌, length, map, codes, not, All, IfOk, option_copied};
 ghost use Rattle.httparse.specs.Spans.{IsHeaderWithin, IsRequestWithin, IsRequestOf, header_bytes};
 ghost use Rattle.dq_web.specs.declared.cutting.Test.TheVariants as test;
-ghost use Rattle.dq_web.specs.Requests.{is_named, IsSole, AreFields, IsBodyLength, IsHead, IsCutOff, IsContentLength, is_between, is_dicom_json_range, is_json_range, passes_word, passes, any_passes, is_expecting, is_of_head};
+ghost use Rattle.dq_web.specs.Requests.{is_named, IsSole, IsLast, AreFields, IsBodyLength, IsHead, IsCutOff, IsContentLength, is_between, is_dicom_json_range, is_json_range, is_dicom_type, passes_word, passes, any_passes, body_form, is_expecting, is_of_head};
 
 use crate::refusal::Refusal;
 use httparse::spans::{EMPTY_HEADER_SPAN, HeaderSpan, RequestSpans, parse_request};
@@ -17,6 +17,17 @@ pub const BODY_MOST: usize = 1_048_576;
 /// The most fields of a head.
 const MOST_FIELDS: usize = 64;
 
+/// The form of a body with an entry of the worklist, by its media type.
+#[derive(Clone, Copy, Debug, PartialEq, Eq)]
+pub enum BodyForm {
+    /// A data set in Explicit VR Little Endian.
+    Dicom,
+    /// A DICOM JSON Model object (PS3.18 annex F).
+    DicomJson,
+    /// Another form.
+    Other,
+}
+
 /// The values of the fields of a head that count here.
 #[derive(Clone, Copy)]
 pub struct Fields<'a> {
@@ -24,8 +35,13 @@ pub struct Fields<'a> {
     pub origin: Option<&'a [u8]>,
     pub fetch_site: Option<&'a [u8]>,
     pub fetch_dest: Option<&'a [u8]>,
+    /// The method that a page of another origin asks leave for.
+    pub request_method: Option<&'a [u8]>,
     pub authorization: Option<&'a [u8]>,
     pub expect: Option<&'a [u8]>,
+    /// The last X-Forwarded-For and the last Forwarded, by which proxies say where a request came from.
+    pub forwarded_for: Option<&'a [u8]>,
+    pub forwarded: Option<&'a [u8]>,
     pub content_length: Option<&'a [u8]>,
     pub transfer_encoding: Option<&'a [u8]>,
     /// Whether a Connection says that no request follows.
@@ -34,6 +50,8 @@ pub struct Fields<'a> {
     pub accepts_json: bool,
     /// Whether an Accept allows DICOM JSON, by its name or by a range.
     pub asks_dicom_json: bool,
+    /// The form that the Content-Type says.
+    pub body_form: BodyForm,
 }
 
 /// The head of a request: its method and target, and the fields that count here.
@@ -80,6 +98,10 @@ enum Test {
     Close,
     DicomJson,
     Json,
+    /// The media type of a DICOM JSON Model object.
+    JsonBody,
+    /// One under which a data set is sent.
+    DicomBody,
 }
 
 /// Whether a name is that of a field. Letters of either case are one.
@@ -111,6 +133,20 @@ fn sole_value<'a>(
     Ok(found)
 }
 
+/// The value of the last field with a name.
+fn last_value<'a>(octets: &'a [u8], headers: &[HeaderSpan], name: &[u8]) -> Option<&'a [u8]>
+    requires { All (IsHeaderWithin (length octets.now)) headers.now }
+    ensures { IsLast name.now (map (header_bytes octets.now) headers.now) (option_copied result) }
+{
+    let mut found = None;
+    for header in headers {
+        if is_named(name, header.name.of(octets)) {
+            found = Some(header.value.of(octets));
+        }
+    }
+    found
+}
+
 fn is_between(octet: u8) -> bool
     ensures { result ≡ is_between octet }
 {
@@ -133,6 +169,16 @@ fn is_json_range(word: &[u8]) -> bool
     is_dicom_json_range(word) || is_named(word, b"application/json")
 }
 
+/// Whether a word is a media type under which a data set is sent: its own, that of any octets, or
+/// the one that senders give what they know no type of.
+fn is_dicom_type(word: &[u8]) -> bool
+    ensures { result ≡ is_dicom_type word.now }
+{
+    is_named(word, b"application/dicom")
+        || is_named(word, b"application/octet-stream")
+        || is_named(word, b"application/x-www-form-urlencoded")
+}
+
 /// Whether a word of a list passes a test.
 fn passes_word(wanted: Test, word: &[u8]) -> bool
     ensures { result ≡ passes_word wanted word.now }
@@ -142,6 +188,8 @@ fn passes_word(wanted: Test, word: &[u8]) -> bool
         Test::Close => is_named(word, b"close"),
         Test::DicomJson => is_dicom_json_range(word),
         Test::Json => is_json_range(word),
+        Test::JsonBody => is_named(word, b"application/dicom+json"),
+        Test::DicomBody => is_dicom_type(word),
     }
 }
 
@@ -180,6 +228,24 @@ fn accepts_json(octets: &[u8], headers: &[HeaderSpan]) -> bool
         || !any_passes(octets, headers, b"accept", Test::Present)
 }
 
+/// The form that the fields say the body has. Without a Content-Type it is a data set.
+fn body_form(octets: &[u8], headers: &[HeaderSpan]) -> BodyForm
+    requires { All (IsHeaderWithin (length octets.now)) headers.now }
+    ensures { result ≡ body_form (map (header_bytes octets.now) headers.now) }
+{
+    if any_passes(octets, headers, b"content-type", Test::JsonBody) {
+        return BodyForm::DicomJson;
+    }
+    if any_passes(octets, headers, b"content-type", Test::DicomBody) {
+        return BodyForm::Dicom;
+    }
+    if any_passes(octets, headers, b"content-type", Test::Present) {
+        BodyForm::Other
+    } else {
+        BodyForm::Dicom
+    }
+}
+
 /// The values of the fields that count.
 fn fields_of<'a>(octets: &'a [u8], headers: &[HeaderSpan]) -> Result<Fields<'a>, Refusal>
     requires { All (IsHeaderWithin (length octets.now)) headers.now }
@@ -189,6 +255,7 @@ fn fields_of<'a>(octets: &'a [u8], headers: &[HeaderSpan]) -> Result<Fields<'a>,
     let origin = sole_value(octets, headers, b"origin")?;
     let fetch_site = sole_value(octets, headers, b"sec-fetch-site")?;
     let fetch_dest = sole_value(octets, headers, b"sec-fetch-dest")?;
+    let request_method = sole_value(octets, headers, b"access-control-request-method")?;
     let authorization = sole_value(octets, headers, b"authorization")?;
     let expect = sole_value(octets, headers, b"expect")?;
     let content_length = sole_value(octets, headers, b"content-length")?;
@@ -198,13 +265,17 @@ fn fields_of<'a>(octets: &'a [u8], headers: &[HeaderSpan]) -> Result<Fields<'a>,
         origin,
         fetch_site,
         fetch_dest,
+        request_method,
         authorization,
         expect,
+        forwarded_for: last_value(octets, headers, b"x-forwarded-for"),
+        forwarded: last_value(octets, headers, b"forwarded"),
         content_length,
         transfer_encoding,
         closes: any_passes(octets, headers, b"connection", Test::Close),
         accepts_json: accepts_json(octets, headers),
         asks_dicom_json: any_passes(octets, headers, b"accept", Test::DicomJson),
+        body_form: body_form(octets, headers),
     })
 }
 

@@ -1,6 +1,6 @@
 //! Laws that hold of each question that is asked. Each function's contract is a law; its body does
 //! nothing.
-ghost use Rattle.std.specs.Prelude.{◌≡◌, ◌≢◌, ℕ, List, String, codes, string_bytes, option_copied};
+ghost use Rattle.std.specs.Prelude.{◌≡◌, ◌≢◌, ℕ, List, String, codes, string_bytes, IsTrue, option_copied};
 ghost use Rattle.std.specs.Global.{Global};
 ghost use Rattle.dq_request.specs.declared.request.Request.TheVariants as ask;
 ghost use Rattle.dq_request.specs.declared.search.Search.{Search};
@@ -8,13 +8,14 @@ ghost use Rattle.dq_web.specs.declared.parsed_request.ParsedRequest.TheVariants 
 ghost use Rattle.dq_web.specs.declared.parsed_request.Question.{Question};
 ghost use Rattle.dq_web.specs.declared.cutting.HttpRequest.{HttpRequest};
 ghost use Rattle.dq_web.specs.declared.guard.Guard.{Guard};
-ghost use Rattle.dq_web.specs.ParsedRequests.{IsAsked, IsQuestion, IsLook, IsBelow, IsScheduling, IsWithdrawing, IsBackingUp, owner_of_request};
-ghost use Rattle.dq_web.specs.Guards.{IsOpened};
+ghost use Rattle.dq_web.specs.ParsedRequests.{IsAsked, IsQuestion, IsLook, IsForeign, IsBelow, IsScheduling, IsWithdrawing, IsBackingUp, owner_of_request, right_of_request};
+ghost use Rattle.dq_web.specs.Guards.{IsOpened, is_of_viewer};
 
-/// Without a key of the institution that it names, or of the operator where it names none, nothing is asked.
+/// Without a key of the institution that it names, or of the operator where it names none, that may do what is
+/// asked, nothing is asked.
 pub fn a_question_has_its_key()
     ensures { (guard : Guard) (request : HttpRequest) (question : Question)
-        → (IsOpened guard.keys (owner_of_request question.asked)
+        → (IsOpened guard.keys (owner_of_request question.asked) (right_of_request question.asked)
         (option_copied request.head.fields.authorization) → ⊥)
         → IsAsked guard request (asked.Question question) → ⊥ }
 {}
@@ -24,6 +25,14 @@ pub fn a_get_only_looks()
     ensures { (guard : Guard) (request : HttpRequest) (question : Question)
         → IsQuestion guard request question → request.head.method.now ≢ codes "POST"
         → request.head.method.now ≢ codes "DELETE" → IsLook question.asked }
+{}
+
+/// Of pages of other sites only those of the viewer's origin ask, and for what changes nothing.
+pub fn another_site_only_looks()
+    ensures { (guard : Guard) (request : HttpRequest) (question : Question)
+        → IsQuestion guard request question → IsForeign request.head
+        → IsTrue (is_of_viewer guard.viewer (option_copied request.head.fields.origin))
+        × IsLook question.asked }
 {}
 
 /// A search is of what the institution of the path keeps.

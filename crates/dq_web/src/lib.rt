@@ -4,6 +4,7 @@
 
 mod counters;
 mod cutting;
+mod forwarding;
 mod guard;
 mod keys;
 pub mod laws;
@@ -16,13 +17,15 @@ mod resource;
 mod responses;
 mod status;
 
-pub use counters::{Class, Counters, Operations, Service, Turns};
-pub use cutting::{BODY_MOST, Cut, Fields, HEAD_MOST, Head, HttpRequest, cut_off};
-pub use guard::Guard;
-pub use keys::{KeyEntry, Keys, KeysFault, OPERATOR};
-pub use parsed_request::{Aim, Document, Method, ParsedRequest, Question, Wish, ask, judge};
+pub use counters::{Class, Counters, Operations, RequestCounts, Service, Turns};
+pub use cutting::{BODY_MOST, BodyForm, Cut, Fields, HEAD_MOST, Head, HttpRequest, cut_off};
+pub use guard::{Guard, Openness};
+pub use keys::{KeyEntry, Keys, KeysFault, OPERATOR, Right};
+pub use parsed_request::{
+    Aim, Document, Judgement, Method, ParsedRequest, Question, Wish, ask, judge, kind_at,
+};
 pub use refusal::{Allowed, Refusal};
 pub use replies::{Framing, Written};
-pub use resource::{Resource, resource_of};
-pub use responses::{answered, document, healthy, misspelled, refused};
+pub use resource::{Resource, ResourceKind, resource_of};
+pub use responses::{answered, document, healthy, misspelled, permitted, refused, unreadable};
 pub use status::Status;

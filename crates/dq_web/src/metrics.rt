@@ -1,10 +1,51 @@
 //! The server's counts, in the Prometheus text format 0.0.4.
 
-use crate::counters::{Counters, Operations, Turns};
+use crate::counters::{Counters, Operations, RequestCounts, Turns};
+use crate::refusal::Allowed;
 use crate::replies::{put, put_number};
+use crate::resource::ResourceKind;
+use crate::status::Status;
 use dq_config::Institution;
 use dq_request::Counted;
 use std::alloc::{AllocError, Global};
+
+/// The kinds of resources by which requests are counted.
+const KINDS: [ResourceKind; 11] = [
+    ResourceKind::Studies,
+    ResourceKind::Series,
+    ResourceKind::Instances,
+    ResourceKind::Worklist,
+    ResourceKind::Steps,
+    ResourceKind::Counts,
+    ResourceKind::Page,
+    ResourceKind::Health,
+    ResourceKind::Metrics,
+    ResourceKind::Backup,
+    ResourceKind::Nowhere,
+];
+
+/// A status of each code.
+const STATUSES: [Status; 19] = [
+    Status::Done,
+    Status::Created,
+    Status::NoContent,
+    Status::BadRequest,
+    Status::Unauthorized,
+    Status::Forbidden,
+    Status::NotFound,
+    Status::MethodNotAllowed(Allowed::Get),
+    Status::NotAcceptable,
+    Status::RequestTimeout,
+    Status::Conflict,
+    Status::TooLarge,
+    Status::UnsupportedMediaType,
+    Status::Misdirected,
+    Status::HeadTooLarge,
+    Status::ServerError,
+    Status::NotImplemented,
+    Status::Unavailable,
+    Status::Full,
+];
 
 /// Adds a sample: a name with its labels, and a value.
 fn put_sample(
@@ -204,6 +245,53 @@ fn put_turns(alloc: Global, text: &mut Vec<u8>, turns: Turns) -> Result<(), Allo
     put_sample(alloc, text, "newtiron_turn_seconds_count", turns.all)
 }
 
+fn put_request(
+    alloc: Global,
+    text: &mut Vec<u8>,
+    kind: ResourceKind,
+    status: Status,
+    value: u64,
+) -> Result<(), AllocError> {
+    put(text, "newtiron_http_requests_total{kind=\"")?;
+    put(text, kind.word())?;
+    put(text, "\",status=\"")?;
+    put_number(alloc, text, u64::from(status.code()))?;
+    put_sample(alloc, text, "\"}", value)
+}
+
+/// Adds the requests for resources of a kind, by the statuses that there were.
+fn put_statuses(
+    alloc: Global,
+    text: &mut Vec<u8>,
+    kind: ResourceKind,
+    requests: &RequestCounts,
+) -> Result<(), AllocError> {
+    for status in STATUSES {
+        let count = requests.of(kind, status);
+        if count > 0 {
+            put_request(alloc, text, kind, status, count)?;
+        }
+    }
+    Ok(())
+}
+
+/// Adds the requests of the web front.
+fn put_requests(
+    alloc: Global,
+    text: &mut Vec<u8>,
+    requests: &RequestCounts,
+) -> Result<(), AllocError> {
+    put(
+        text,
+        "# HELP newtiron_http_requests_total Requests of the web front, by the status of the response.\n",
+    )?;
+    put(text, "# TYPE newtiron_http_requests_total counter\n")?;
+    for kind in KINDS {
+        put_statuses(alloc, text, kind, requests)?;
+    }
+    Ok(())
+}
+
 /// Returns how much each institution keeps, their limits, and the server's counts of itself.
 pub(crate) fn metrics_text(
     alloc: Global,
@@ -216,6 +304,7 @@ pub(crate) fn metrics_text(
     put_limits(alloc, &mut text, institutions)?;
     put_associations(alloc, &mut text, counters)?;
     put_services(alloc, &mut text, counters)?;
+    put_requests(alloc, &mut text, &counters.requests)?;
     put_turns(alloc, &mut text, counters.turns)?;
     put(
         &mut text,

@@ -1,18 +1,23 @@
 //! The questions that HTTP requests ask of the server.
-ghost use Rattle.std.specs.Prelude.{◌≡◌, ◌==◌, ◌++◌, ◌∷◌, [], ◌||◌, codes, Some, IsTrue, IfOk, OnOk, IfNone, MatchOption, MatchBool, is_some, option_copied};
+ghost use Rattle.std.specs.Prelude.{◌≡◌, ◌==◌, ◌++◌, ◌∷◌, [], ◌||◌, codes, Some, IsTrue, IfOk, OnOk, MatchOption, MatchBool, is_some, option_copied};
 ghost use Rattle.std.specs.List.{list_all, list_any, starts_with};
 ghost use Rattle.std.specs.Str.{bytes_eq};
 ghost use Rattle.percent_encoding.specs.Percent.{percent_decode};
+ghost use Rattle.dq_web.specs.Guards.{IsOpenedBy, IsOpened};
+ghost use Rattle.dq_request.specs.declared.request.Request.TheVariants as ask;
 ghost use Rattle.dq_request.specs.Searches.{TakesWords, StopsAt, name_in};
-ghost use Rattle.dq_web.specs.ParsedRequests.{is_visible, is_printable, is_silent, is_attribute, is_unknown, is_left_out, parts_of, words_among, words_in, uid_key, hundred_of, series_of, images_of, IsSearchAt, owner_of, IsPathAndQuery, IsTarget, IsMethod, IsLooked, IsBackup, Posting, Deleting, IsWanted, has_no_slash, is_plain_segment, is_plain_path, is_page, IsLetIn, IsJudged, is_fuzzy, wish_of, IsAsked};
+ghost use Rattle.dq_web.specs.declared.cutting.BodyForm.TheVariants as form;
+ghost use Rattle.dq_web.specs.declared.parsed_request.Wanted.TheVariants as wanted;
+ghost use Rattle.dq_web.specs.ParsedRequests.{is_visible, is_printable, is_silent, is_attribute, is_unknown, is_left_out, parts_of, words_among, words_in, uid_key, hundred_of, series_of, images_of, IsSearchAt, is_searched, only_looks, openness_of, is_leave_asked, owner_of, right_of, IsPathAndQuery, IsTarget, IsMethodOf, IsLooked, IsBackup, IsEntryPosted, IsPosted, Deleting, IsWanted, has_no_slash, is_plain_segment, is_plain_path, is_page, IsLetIn, IsJudged, label_of, is_fuzzy, passes_part, wish_of, IsAsked, IsResourceAt, IsKindAt};
 
-use crate::cutting::{Fields, Head, HttpRequest};
-use crate::guard::Guard;
-use crate::keys::OPERATOR;
+use crate::cutting::{BodyForm, Fields, Head, HttpRequest};
+use crate::guard::{Guard, Openness};
+use crate::keys::{KeyEntry, OPERATOR, Right};
 use crate::refusal::{Allowed, Refusal};
 use crate::replies::Framing;
-use crate::resource::{Resource, at_slash, behind, resource_of};
-use dq_json::tag_named;
+use crate::resource::{Resource, ResourceKind, at_slash, behind, kind_of, resource_of};
+use dq_dataset::PackedDataSet;
+use dq_json::{JsonFault, data_set_of, tag_named};
 use dq_list::Listed;
 use dq_request::{Request, Search, Subject};
 use dq_vr::{Tag, lookup, tags};
@@ -56,8 +61,12 @@ pub enum ParsedRequest {
     Refused(Refusal),
     /// A part of its query is no word of a search.
     Misspelled(String),
+    /// Its body is to be DICOM JSON, and is none.
+    Unreadable(JsonFault),
     Document(Document),
     Health,
+    /// Leave for a page of the viewer's origin to look at something.
+    Preflight,
     Question(Question),
 }
 
@@ -68,6 +77,8 @@ pub enum Method {
     Head,
     Post,
     Delete,
+    /// OPTIONS, by which leave is asked for a page of the viewer's origin to look at something.
+    Preflight,
     Other,
 }
 
@@ -79,12 +90,41 @@ pub struct Aim<'a> {
     pub query: &'a str,
 }
 
+/// The judgement of a head.
+#[derive(Clone, Copy)]
+pub enum Judgement<'a> {
+    Refused(Refusal),
+    /// Everybody may see what it aims at, or it asks leave to look and nothing else.
+    Open,
+    /// The key of this entry opens what it aims at.
+    Opened(&'a KeyEntry),
+}
+
+impl Method {
+    fn is_preflight(self) -> bool
+        ensures { result ≡ is_leave_asked self }
+    {
+        matches!(self, Method::Preflight)
+    }
+}
+
 /// The result of reading a path, a method, a query and a body.
 #[derive(Drop)]
 enum Wanted {
     Request(Request),
     /// The part of the query that is no word of the search.
     Misspelled(String),
+    /// Why the body is not DICOM JSON.
+    Unreadable(JsonFault),
+}
+
+/// A test of the parts of a query.
+#[derive(Clone, Copy)]
+enum PartTest {
+    /// That it asks for fuzzy matching.
+    Fuzzy,
+    /// That it names neither an attribute nor the page.
+    Unknown,
 }
 
 /// Why nothing is asked.
@@ -230,10 +270,10 @@ fn is_plain_path(alloc: Global, path: &str) -> Result<bool, AllocError>
     Ok(are_plain)
 }
 
-fn method_of(method: &[u8]) -> Method
-    ensures { IsMethod method.now result }
+fn method_of(guard: &Guard, head: &Head<'_>) -> Method
+    ensures { IsMethodOf guard.now head.now result }
 {
-    let Ok(method) = str::from_utf8(method) else {
+    let Ok(method) = str::from_utf8(head.method) else {
         return Method::Other;
     };
     match method {
@@ -241,6 +281,13 @@ fn method_of(method: &[u8]) -> Method
         "HEAD" => Method::Head,
         "POST" => Method::Post,
         "DELETE" => Method::Delete,
+        "OPTIONS" => {
+            if guard.is_preflight(&head.fields) {
+                Method::Preflight
+            } else {
+                Method::Other
+            }
+        }
         _ => Method::Other,
     }
 }
@@ -263,12 +310,52 @@ fn check_method(resource: Resource<'_>, method: Method) -> Result<(), Refusal> {
         Method::Get | Method::Head => { allowed == Allowed::Get || allowed == Allowed::GetAndPost }
         Method::Post => allowed == Allowed::Post || allowed == Allowed::GetAndPost,
         Method::Delete => allowed == Allowed::Delete,
+        Method::Preflight => is_searched(resource),
         Method::Other => false,
     };
     if is_allowed {
         Ok(())
     } else {
         Err(Refusal::Method(allowed))
+    }
+}
+
+/// Whether a resource is searched for what an institution keeps, or counts it.
+fn is_searched(resource: Resource<'_>) -> bool
+    ensures { result ≡ is_searched resource.entry }
+{
+    match resource {
+        Resource::Counts(_)
+        | Resource::Studies(_)
+        | Resource::Series(..)
+        | Resource::Images(..)
+        | Resource::Unsearched(_)
+        | Resource::Worklist(_)
+        | Resource::Steps(_) => true,
+        _ => false,
+    }
+}
+
+/// Whether a method only looks, or asks leave for that.
+fn only_looks(method: Method) -> bool
+    ensures { result ≡ only_looks method }
+{
+    match method {
+        Method::Get | Method::Head | Method::Preflight => true,
+        Method::Post | Method::Delete | Method::Other => false,
+    }
+}
+
+/// The pages of other sites that may send a request of a method for a resource.
+fn openness_of(resource: Resource<'_>, method: Method) -> Openness
+    ensures { result ≡ openness_of resource.entry method }
+{
+    if is_page(resource) {
+        Openness::Tab
+    } else if is_searched(resource) && only_looks(method) {
+        Openness::Viewer
+    } else {
+        Openness::Closed
     }
 }
 
@@ -286,6 +373,18 @@ fn owner_of<'a>(resource: Resource<'a>) -> &'a [u8]
         | Resource::Entry(name, _)
         | Resource::Steps(name) => name.as_bytes(),
         _ => OPERATOR,
+    }
+}
+
+/// The right that a method needs at a resource.
+fn right_of(resource: Resource<'_>, method: Method) -> Right
+    ensures { result ≡ right_of resource.entry method }
+{
+    match (resource, method) {
+        (Resource::Metrics, _) => Right::Metrics,
+        (Resource::Backup, _) => Right::Backup,
+        (_, Method::Post | Method::Delete) => Right::Order,
+        _ => Right::Read,
     }
 }
 
@@ -374,24 +473,23 @@ fn is_fuzzy(part: &str) -> bool
     part == "fuzzymatching=true"
 }
 
-/// Whether a query asks for fuzzy matching.
-fn asks_fuzzy(query: &str) -> bool
-    ensures { result ≡ list_any is_fuzzy (parts_of query.now) }
+/// Whether a part of a query passes a test.
+fn passes_part(wanted: PartTest, part: &str) -> bool
+    ensures { result ≡ passes_part wanted part.now }
 {
-    let mut is_asked = false;
-    for part in query.split('&') {
-        is_asked = is_asked || is_fuzzy(part);
+    match wanted {
+        PartTest::Fuzzy => is_fuzzy(part),
+        PartTest::Unknown => is_unknown(part),
     }
-    is_asked
 }
 
-/// Whether a query has a parameter that is unknown.
-fn has_unknown(query: &str) -> bool
-    ensures { result ≡ list_any is_unknown (parts_of query.now) }
+/// Whether one of the parts of a query does.
+fn has_part(wanted: PartTest, query: &str) -> bool
+    ensures { result ≡ list_any (passes_part wanted) (parts_of query.now) }
 {
     let mut is_found = false;
     for part in query.split('&') {
-        is_found = is_found || is_unknown(part);
+        is_found = is_found || passes_part(wanted, part);
     }
     is_found
 }
@@ -402,8 +500,8 @@ fn wish_of(fields: &Fields<'_>, query: &str) -> Wish
 {
     Wish {
         wants_array: fields.asks_dicom_json,
-        is_fuzzy: asks_fuzzy(query),
-        has_unknown: has_unknown(query),
+        is_fuzzy: has_part(PartTest::Fuzzy, query),
+        has_unknown: has_part(PartTest::Unknown, query),
     }
 }
 
@@ -510,16 +608,53 @@ fn back_up(alloc: Global, path: &[u8]) -> Result<Request, Unasked>
     }
 }
 
-/// Returns the request that POST makes.
-fn post_at(alloc: Global, resource: Resource<'_>, body: &[u8]) -> Result<Request, Unasked>
-    ensures { IfOk result (Posting resource.entry body.now) }
+/// An order to keep an entry, whose data set has these octets.
+fn schedule(alloc: Global, name: &str, octets: Listed<u8>) -> Result<Wanted, Unasked>
+    ensures { IfOk result (λ it. it ≡ wanted.Request (ask.Schedule name.now octets)) }
+{
+    Ok(Wanted::Request(Request::Schedule {
+        institution: Listed::copy_of(alloc, name.as_bytes())?,
+        octets,
+    }))
+}
+
+/// An order to keep the entry that a body spells as DICOM JSON.
+fn schedule_json(alloc: Global, name: &str, body: &[u8]) -> Result<Wanted, Unasked>
+    ensures { IfOk result (IsEntryPosted name.now form.DicomJson body.now) }
+{
+    match data_set_of(alloc, body) {
+        Ok(data_set) => {
+            let packed = PackedDataSet::new(alloc, &data_set)?;
+            schedule(alloc, name, packed.into_octets())
+        }
+        Err(JsonFault::NoMemory) => Err(Unasked::NoMemory),
+        Err(fault) => Ok(Wanted::Unreadable(fault)),
+    }
+}
+
+/// What POST at the worklist comes to.
+fn post_entry(alloc: Global, name: &str, form: BodyForm, body: &[u8]) -> Result<Wanted, Unasked>
+    ensures { IfOk result (IsEntryPosted name.now form body.now) }
+{
+    match form {
+        BodyForm::Dicom => schedule(alloc, name, Listed::copy_of(alloc, body)?),
+        BodyForm::DicomJson => schedule_json(alloc, name, body),
+        BodyForm::Other => Err(Unasked::Refused(Refusal::MediaType)),
+    }
+}
+
+/// What POST comes to.
+fn post_at(
+    alloc: Global,
+    resource: Resource<'_>,
+    form: BodyForm,
+    body: &[u8],
+) -> Result<Wanted, Unasked>
+    ensures { IfOk result (IsPosted resource.entry form body.now) }
 {
     match resource {
-        Resource::Worklist(name) => Ok(Request::Schedule {
-            institution: Listed::copy_of(alloc, name.as_bytes())?,
-            octets: Listed::copy_of(alloc, body)?,
-        }),
-        Resource::Backup => back_up(alloc, body),
+        Resource::Worklist(name) => post_entry(alloc, name, form, body),
+        Resource::Backup => Ok(Wanted::Request(back_up(alloc, body)?)),
         _ => Err(Unasked::Refused(Refusal::Path)),
     }
 }
@@ -550,9 +685,9 @@ fn wanted_by(
 {
     match aim.method {
         Method::Get | Method::Head => look_at(alloc, aim.resource, fields, aim.query),
-        Method::Post => Ok(Wanted::Request(post_at(alloc, aim.resource, body)?)),
+        Method::Post => post_at(alloc, aim.resource, fields.body_form, body),
         Method::Delete => Ok(Wanted::Request(delete_at(alloc, aim.resource)?)),
-        Method::Other => Err(Unasked::Refused(Refusal::Path)),
+        Method::Preflight | Method::Other => Err(Unasked::Refused(Refusal::Path)),
     }
 }
 
@@ -593,14 +728,27 @@ fn let_in<'a>(alloc: Global, guard: &Guard, head: &Head<'a>) -> Result<Aim<'a>, 
     let (path, query) = path_and_query(text);
     check_path(alloc, path)?;
     let resource = resource_of(path);
-    guard.admit(host, is_page(resource), &head.fields)?;
-    let method = method_of(head.method);
+    let method = method_of(guard, head);
+    guard.admit(host, openness_of(resource, method), &head.fields)?;
     check_method(resource, method)?;
     Ok(Aim {
         resource,
         method,
         query,
     })
+}
+
+/// The entry whose key opens what a head aims at.
+fn entry_for<'a>(guard: &'a Guard, aim: Aim<'_>, head: &Head<'_>) -> Result<&'a KeyEntry, Refusal>
+    ensures by { IfOk result (λ entry. IsOpenedBy guard.now.keys (owner_of aim.entry.resource)
+        (right_of aim.entry.resource aim.entry.method) (option_copied head.now.fields.authorization)
+        entry.now) }
+    ensures opened { OnOk result (IsOpened guard.now.keys (owner_of aim.entry.resource)
+        (right_of aim.entry.resource aim.entry.method)
+        (option_copied head.now.fields.authorization)) }
+{
+    let right = right_of(aim.resource, aim.method);
+    guard.open(owner_of(aim.resource), right, head.fields.authorization)
 }
 
 /// A question, before its framing is known.
@@ -615,6 +763,8 @@ fn question_of(asked: Request, wish: Wish) -> Question
             is_last: false,
             is_head: false,
             date: None,
+            viewer: None,
+            kind: ResourceKind::Nowhere,
         },
     }
 }
@@ -628,27 +778,31 @@ fn answer_for(
     ensures { IfOk result (IsAsked guard.now request.now) }
 {
     let aim = let_in(alloc, guard, &request.head)?;
+    if aim.method.is_preflight() {
+        return Ok(ParsedRequest::Preflight);
+    }
     match aim.resource {
         Resource::Page => Ok(ParsedRequest::Document(Document::Page)),
         Resource::Style => Ok(ParsedRequest::Document(Document::Style)),
         Resource::Script => Ok(ParsedRequest::Document(Document::Script)),
         Resource::Health => Ok(ParsedRequest::Health),
         _ => {
-            guard.open(owner_of(aim.resource), request.head.fields.authorization)?;
+            entry_for(guard, aim, &request.head)?;
             match wanted_by(alloc, aim, &request.head.fields, request.body)? {
                 Wanted::Request(asked) => {
                     let wish = wish_of(&request.head.fields, aim.query);
                     Ok(ParsedRequest::Question(question_of(asked, wish)))
                 }
                 Wanted::Misspelled(word) => Ok(ParsedRequest::Misspelled(word)),
+                Wanted::Unreadable(fault) => Ok(ParsedRequest::Unreadable(fault)),
             }
         }
     }
 }
 
 /// Returns what a request asks of the server, what else answers it, or why it is refused: a host
-/// that is not the front's, a page of another origin, a path, a method, or a key that does not open
-/// the path.
+/// that is not the front's, a page of another origin, a path, a method, a key that does not open
+/// the path or may not do there what is asked, or a body in a form that is not read.
 pub fn ask(
     alloc: Global,
     guard: &Guard,
@@ -663,24 +817,69 @@ pub fn ask(
     }
 }
 
-/// Refuses a head that is not let in, or whose key does not open the resource.
-fn check_head(alloc: Global, guard: &Guard, head: &Head<'_>) -> Result<(), Unasked>
-    ensures { OnOk result (IsJudged guard.now head.now) }
+/// The resource at the path of a head.
+fn resource_at<'a>(head: &Head<'a>) -> Result<Resource<'a>, Refusal>
+    ensures { IfOk result (IsResourceAt head.now) }
 {
-    let aim = let_in(alloc, guard, head)?;
-    match aim.resource {
-        Resource::Page | Resource::Style | Resource::Script | Resource::Health => Ok(()),
-        _ => Ok(guard.open(owner_of(aim.resource), head.fields.authorization)?),
+    let (_, text) = host_and_path(target_text(head.target)?, head.fields.host)?;
+    let (path, _) = path_and_query(text);
+    Ok(resource_of(path))
+}
+
+/// Returns the kind of the resource at the path of a head.
+pub fn kind_at(head: &Head<'_>) -> ResourceKind
+    ensures { IsKindAt head.now result }
+{
+    match resource_at(head) {
+        Ok(resource) => kind_of(resource),
+        Err(_) => ResourceKind::Nowhere,
     }
 }
 
-/// Why a request is refused by its head, before its body has come, if it is.
-pub fn judge(alloc: Global, guard: &Guard, head: &Head<'_>) -> Result<Option<Refusal>, AllocError>
-    ensures { IfOk result (λ refusal. IfNone refusal (IsJudged guard.now head.now)) }
+/// Returns the judgement of a head that is not refused: it is let in, and only asks leave to look, or may
+/// see what it aims at.
+fn judgement_of<'a>(
+    alloc: Global,
+    guard: &'a Guard,
+    head: &Head<'_>,
+) -> Result<Judgement<'a>, Unasked>
+    ensures { IfOk result (IsJudged guard.now head.now) }
 {
-    match check_head(alloc, guard, head) {
-        Ok(()) => Ok(None),
-        Err(Unasked::Refused(refusal)) => Ok(Some(refusal)),
+    let aim = let_in(alloc, guard, head)?;
+    if aim.method.is_preflight() {
+        return Ok(Judgement::Open);
+    }
+    match aim.resource {
+        Resource::Page | Resource::Style | Resource::Script | Resource::Health => {
+            Ok(Judgement::Open)
+        }
+        _ => Ok(Judgement::Opened(entry_for(guard, aim, head)?)),
+    }
+}
+
+/// Returns the judgement of a request by its head, before its body has come.
+pub fn judge<'a>(
+    alloc: Global,
+    guard: &'a Guard,
+    head: &Head<'_>,
+) -> Result<Judgement<'a>, AllocError>
+    ensures { IfOk result (IsJudged guard.now head.now) }
+{
+    match judgement_of(alloc, guard, head) {
+        Ok(judgement) => Ok(judgement),
+        Err(Unasked::Refused(refusal)) => Ok(Judgement::Refused(refusal)),
         Err(Unasked::NoMemory) => Err(AllocError),
+    }
+}
+
+impl<'a> Judgement<'a> {
+    /// Returns the label of the key that let the head in, which is empty if it has none.
+    pub fn label(self) -> &'a [u8]
+        ensures { result.now ≡ label_of self.entry }
+    {
+        match self {
+            Judgement::Opened(entry) => entry.label.as_slice(),
+            Judgement::Refused(_) | Judgement::Open => &[],
+        }
     }
 }

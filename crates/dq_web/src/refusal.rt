@@ -32,8 +32,12 @@ pub enum Refusal {
     Method(Allowed),
     /// The key does not open the path.
     Key,
+    /// The key opens the path, and may not do what is asked there.
+    Right,
     /// The resource at the path is in no form that is accepted.
     Accept,
+    /// The body has another media type than those that are read.
+    MediaType,
     /// The search is not supported.
     Unsupported,
     /// The head or the body did not come in the time that it has.
@@ -67,7 +71,9 @@ impl Refusal {
             Refusal::Path => "path",
             Refusal::Method(_) => "method",
             Refusal::Key => "key",
+            Refusal::Right => "right",
             Refusal::Accept => "accept",
+            Refusal::MediaType => "media type",
             Refusal::Unsupported => "unsupported",
             Refusal::Time => "time",
         }

@@ -1,10 +1,11 @@
 //! Responses as octets (RFC 9112 section 2.1).
-ghost use Rattle.std.specs.Prelude.{◌≡◌, ◌++◌, length, IfOk, OnOk};
+ghost use Rattle.std.specs.Prelude.{◌≡◌, ◌++◌, length, option_copied, IfOk, OnOk};
 ghost use Rattle.std.specs.Fmt.{decimal};
-ghost use Rattle.dq_web.specs.Responses.{content_type, extra_fields, has_content, guarding_fields, closing_field, date_field, literal_field, unknown_field, full_field, warning_fields, content, type_field, length_field, body_fields, head_text, whole_head_text};
+ghost use Rattle.dq_web.specs.Responses.{content_type, extra_fields, has_content, guarding_fields, closing_field, date_field, origin_field, viewer_fields, literal_field, unknown_field, full_field, warning_fields, content, type_field, length_field, body_fields, head_text, whole_head_text};
 ghost use Rattle.dq_web.specs.Answers.{IsWritten};
 
 use crate::refusal::Allowed;
+use crate::resource::ResourceKind;
 use crate::status::Status;
 use dq_list::Listed;
 use httpdate::HttpDate;
@@ -36,15 +37,16 @@ pub struct Reply {
     pub is_full: bool,
 }
 
-/// A response as octets, and its status.
+/// A response as octets, its status, and the kind of the resource that was asked for.
 #[derive(Drop)]
 pub struct Written {
     pub status: Status,
+    pub kind: ResourceKind,
     pub octets: Vec<u8>,
 }
 
 /// How a response is framed in the octets of its connection.
-#[derive(Clone, Copy, Debug)]
+#[derive(Debug, Drop)]
 pub struct Framing {
     /// Whether no request is read behind it.
     pub is_last: bool,
@@ -52,6 +54,22 @@ pub struct Framing {
     pub is_head: bool,
     /// When it was made, if the clock says so.
     pub date: Option<HttpDate>,
+    /// The origin of another site whose pages may read it.
+    pub viewer: Option<Listed<u8>>,
+    /// The kind of the resource that was asked for.
+    pub kind: ResourceKind,
+}
+
+impl Framing {
+    /// Returns the octets of the origin whose pages may read it.
+    fn viewer(&self) -> Option<&[u8]>
+        ensures { option_copied result ≡ self.now.viewer }
+    {
+        match &self.viewer {
+            Some(origin) => Some(origin.as_slice()),
+            None => None,
+        }
+    }
 }
 
 impl Kind {
@@ -71,11 +89,17 @@ impl Kind {
     }
 }
 
-/// The fields that a status asks for (RFC 9110 sections 11.6.1 and 10.2.1).
+/// The fields that a status asks for (RFC 9110 sections 11.6.1 and 10.2.1; the CORS-preflight response
+/// of the Fetch standard).
 fn extra_fields(status: Status) -> &'static str
     ensures { result.now ≡ extra_fields status }
 {
     match status {
+        Status::Preflight => {
+            "Access-Control-Allow-Methods: GET, HEAD\r\n\
+            Access-Control-Allow-Headers: Accept, Authorization\r\n\
+            Access-Control-Max-Age: 600\r\n"
+        }
         Status::Unauthorized => "WWW-Authenticate: Bearer\r\n",
         Status::MethodNotAllowed(Allowed::Get) => "Allow: GET, HEAD\r\n",
         Status::MethodNotAllowed(Allowed::Post) => "Allow: POST\r\n",
@@ -105,7 +129,7 @@ fn has_content(status: Status) -> bool
     ensures { result ≡ has_content status }
 {
     match status {
-        Status::NoContent => false,
+        Status::NoContent | Status::Preflight => false,
         _ => true,
     }
 }
@@ -188,6 +212,32 @@ fn put_date(head: &mut Vec<u8>, date: Option<HttpDate>) -> Result<(), AllocError
     Ok(())
 }
 
+/// Adds an origin whose pages may read a response.
+fn put_origin(head: &mut Vec<u8>, origin: &[u8]) -> Result<(), AllocError>
+    ensures { OnOk result (head.new.items ≡ head.old.items ++ origin_field origin.now) }
+{
+    put(head, "Access-Control-Allow-Origin: ")?;
+    head.extend_from_slice(origin)?;
+    put(head, "\r\n")?;
+    Ok(())
+}
+
+/// Adds that the pages of an origin may read a response, if there is one.
+fn put_viewer(head: &mut Vec<u8>, viewer: Option<&[u8]>) -> Result<(), AllocError>
+    ensures { OnOk result (head.new.items ≡ head.old.items
+        ++ viewer_fields (option_copied viewer.entry)) }
+{
+    let Some(origin) = viewer else {
+        return Ok(());
+    };
+    put_origin(head, origin)?;
+    put(
+        head,
+        "Access-Control-Expose-Headers: Warning\r\nVary: Origin\r\n",
+    )?;
+    Ok(())
+}
+
 /// The field that says that matching was not fuzzy.
 fn literal_field(is_literal: bool) -> &'static str
     ensures { result.now ≡ literal_field is_literal }
@@ -233,12 +283,13 @@ fn put_warnings(head: &mut Vec<u8>, reply: &Reply) -> Result<(), AllocError>
 }
 
 /// The whole head of a response.
-fn head_of(alloc: Global, reply: &Reply, framing: Framing) -> Result<Vec<u8>, AllocError>
-    ensures { IfOk result (λ head. head.items ≡ whole_head_text reply.now framing) }
+fn head_of(alloc: Global, reply: &Reply, framing: &Framing) -> Result<Vec<u8>, AllocError>
+    ensures { IfOk result (λ head. head.items ≡ whole_head_text reply.now framing.now) }
 {
     let mut head = head_start(alloc, reply.status)?;
     put_date(&mut head, framing.date)?;
     put(&mut head, closing_field(framing.is_last))?;
+    put_viewer(&mut head, framing.viewer())?;
     put_warnings(&mut head, reply)?;
     put_body_fields(alloc, &mut head, reply)?;
     put(&mut head, "\r\n")?;
@@ -253,13 +304,18 @@ fn content(is_head: bool, body: &[u8]) -> &[u8]
 }
 
 /// A response, as it is framed.
-pub(crate) fn printed(alloc: Global, reply: &Reply, framing: Framing) -> Result<Written, AllocError>
-    ensures { IfOk result (IsWritten reply.now framing) }
+pub(crate) fn printed(
+    alloc: Global,
+    reply: &Reply,
+    framing: &Framing,
+) -> Result<Written, AllocError>
+    ensures { IfOk result (IsWritten reply.now framing.now) }
 {
     let mut octets = head_of(alloc, reply, framing)?;
     octets.extend_from_slice(content(framing.is_head, reply.body.as_slice()))?;
     Ok(Written {
         status: reply.status,
+        kind: framing.kind,
         octets,
     })
 }

@@ -1,6 +1,6 @@
 //! The resources that paths name.
 ghost use Rattle.std.specs.Prelude.{◌≡◌, ◌++◌, codes, IfSome};
-ghost use Rattle.dq_web.specs.Resources.{IsPath, IsPathBelow, IsPathOfStudies};
+ghost use Rattle.dq_web.specs.Resources.{kind_of, IsPath, IsPathBelow, IsPathOfStudies};
 
 /// The resource at a path. Only the path of a request names an institution.
 #[derive(Clone, Copy)]
@@ -21,6 +21,61 @@ pub enum Resource<'a> {
     Entry(&'a str, &'a str),
     Steps(&'a str),
     Nowhere,
+}
+
+/// The kind of a resource, by which requests are counted.
+#[derive(Clone, Copy, Debug, PartialEq, Eq)]
+pub enum ResourceKind {
+    Studies,
+    Series,
+    Instances,
+    Worklist,
+    Steps,
+    Counts,
+    Page,
+    Health,
+    Metrics,
+    Backup,
+    /// No resource, or one that has no kind of its own.
+    Nowhere,
+}
+
+impl ResourceKind {
+    /// Returns the word for it in a label of the metrics.
+    pub(crate) fn word(self) -> &'static str {
+        match self {
+            ResourceKind::Studies => "studies",
+            ResourceKind::Series => "series",
+            ResourceKind::Instances => "instances",
+            ResourceKind::Worklist => "worklist",
+            ResourceKind::Steps => "steps",
+            ResourceKind::Counts => "counts",
+            ResourceKind::Page => "page",
+            ResourceKind::Health => "health",
+            ResourceKind::Metrics => "metrics",
+            ResourceKind::Backup => "backup",
+            ResourceKind::Nowhere => "none",
+        }
+    }
+}
+
+/// Returns the kind of a resource.
+pub(crate) fn kind_of(resource: Resource<'_>) -> ResourceKind
+    ensures { result ≡ kind_of resource.entry }
+{
+    match resource {
+        Resource::Studies(_) => ResourceKind::Studies,
+        Resource::Series(..) => ResourceKind::Series,
+        Resource::Images(..) => ResourceKind::Instances,
+        Resource::Worklist(_) | Resource::Entry(..) => ResourceKind::Worklist,
+        Resource::Steps(_) => ResourceKind::Steps,
+        Resource::Counts(_) => ResourceKind::Counts,
+        Resource::Page | Resource::Style | Resource::Script => ResourceKind::Page,
+        Resource::Health => ResourceKind::Health,
+        Resource::Metrics => ResourceKind::Metrics,
+        Resource::Backup => ResourceKind::Backup,
+        Resource::Unsearched(_) | Resource::Nowhere => ResourceKind::Nowhere,
+    }
 }
 
 /// Returns the text before the first slash, and the text after it.

@@ -1,7 +1,7 @@
 //! Responses: what the server answered, and what the front answers by itself.
 ghost use Rattle.std.specs.Prelude.{◌≡◌, ◌++◌, [], flat_map, codes, find, option_copied, IfOk, OnOk};
 ghost use Rattle.std.specs.Str.{bytes_eq};
-ghost use Rattle.dq_web.specs.Answers.{plain, escaped_octet, escaped_text, refused_reply, misspelled_reply, server_reply, order_status, search_status, copy_status, cause_status, cause_reply, behind_comma, array_text, is_full, search_reply, found_reply, limit_text, study_counts_text, step_counts_text, counts_text, is_named_so, is_counted_of, counts_reply, done_reply, IsMetricsReply, IsReplyTo, IsResponse, IsWritten, refusal_reply, document_reply, health_reply};
+ghost use Rattle.dq_web.specs.Answers.{plain, escaped_octet, escaped_text, refused_reply, misspelled_reply, unreadable_reply, server_reply, order_status, search_status, copy_status, cause_status, cause_reply, behind_comma, array_text, is_full, search_reply, found_reply, limit_text, study_counts_text, step_counts_text, counts_text, is_named_so, is_counted_of, counts_reply, done_reply, IsMetricsReply, IsReplyTo, IsResponse, IsWritten, refusal_reply, document_reply, preflight_reply, health_reply};
 
 use crate::counters::Counters;
 use crate::metrics::metrics_text;
@@ -12,7 +12,7 @@ use crate::replies::{Framing, Kind, Reply, Written, printed, put, put_number};
 use crate::status::Status;
 use dq_config::Institution;
 use dq_dataset::DataSet;
-use dq_json::json_of;
+use dq_json::{JsonFault, json_of};
 use dq_list::Listed;
 use dq_request::{BackupError, Cause, Counted, Counts, Request, Response, ShownPage};
 use std::alloc::{AllocError, Global};
@@ -91,6 +91,13 @@ fn misspelled_reply(alloc: Global, word: &str) -> Result<Reply, AllocError>
     let mut why = String::from_str(alloc, "keyword ")?;
     why.push_str(word)?;
     refused_reply(alloc, Status::BadRequest, why.as_str())
+}
+
+/// The response where the body is not the DICOM JSON that it is to be.
+fn unreadable_reply(alloc: Global, fault: JsonFault) -> Result<Reply, AllocError>
+    ensures { IfOk result (λ reply. reply ≡ unreadable_reply fault) }
+{
+    refused_reply(alloc, Status::BadRequest, fault.text(alloc)?.as_str())
 }
 
 /// The response where the server answered what is no answer to the request.
@@ -381,22 +388,29 @@ pub fn answered(
         question.now.framing) }
 {
     let reply = reply_to(alloc, question, response, institutions, counters)?;
-    printed(alloc, &reply, question.framing)
+    printed(alloc, &reply, &question.framing)
 }
 
 /// The response to a request that the front refuses, as octets.
-pub fn refused(alloc: Global, refusal: Refusal, framing: Framing) -> Result<Written, AllocError>
-    ensures { IfOk result (IsWritten (refusal_reply refusal) framing) }
+pub fn refused(alloc: Global, refusal: Refusal, framing: &Framing) -> Result<Written, AllocError>
+    ensures { IfOk result (IsWritten (refusal_reply refusal) framing.now) }
 {
     let reply = refused_reply(alloc, Status::of(refusal), refusal.word())?;
     printed(alloc, &reply, framing)
 }
 
 /// The response to a search with a word that is none of it, as octets.
-pub fn misspelled(alloc: Global, word: &str, framing: Framing) -> Result<Written, AllocError>
-    ensures { IfOk result (IsWritten (misspelled_reply word.now) framing) }
+pub fn misspelled(alloc: Global, word: &str, framing: &Framing) -> Result<Written, AllocError>
+    ensures { IfOk result (IsWritten (misspelled_reply word.now) framing.now) }
 {
     printed(alloc, &misspelled_reply(alloc, word)?, framing)
+}
+
+/// The response to an entry that is not the DICOM JSON that it is to be, as octets.
+pub fn unreadable(alloc: Global, fault: JsonFault, framing: &Framing) -> Result<Written, AllocError>
+    ensures { IfOk result (IsWritten (unreadable_reply fault) framing.now) }
+{
+    printed(alloc, &unreadable_reply(alloc, fault)?, framing)
 }
 
 /// A document of the page for people.
@@ -423,15 +437,23 @@ fn document_reply(alloc: Global, document: Document) -> Result<Reply, AllocError
 }
 
 /// A document of the page for people, as octets of a response.
-pub fn document(alloc: Global, document: Document, framing: Framing) -> Result<Written, AllocError>
-    ensures { IfOk result (IsWritten (document_reply document) framing) }
+pub fn document(alloc: Global, document: Document, framing: &Framing) -> Result<Written, AllocError>
+    ensures { IfOk result (IsWritten (document_reply document) framing.now) }
 {
     printed(alloc, &document_reply(alloc, document)?, framing)
 }
 
+/// Leave for a page of the viewer's origin to look, as octets of a response.
+pub fn permitted(alloc: Global, framing: &Framing) -> Result<Written, AllocError>
+    ensures { IfOk result (IsWritten preflight_reply framing.now) }
+{
+    let reply = plain(Status::Preflight, Kind::Text, Vec::new(alloc));
+    printed(alloc, &reply, framing)
+}
+
 /// The response that the front is there, as octets.
-pub fn healthy(alloc: Global, framing: Framing) -> Result<Written, AllocError>
-    ensures { IfOk result (IsWritten health_reply framing) }
+pub fn healthy(alloc: Global, framing: &Framing) -> Result<Written, AllocError>
+    ensures { IfOk result (IsWritten health_reply framing.now) }
 {
     let reply = plain(Status::Done, Kind::Text, Vec::from_slice(alloc, b"ok\n")?);
     printed(alloc, &reply, framing)

@@ -168,7 +168,7 @@ answer-records limits verdict None progress input = refl
 answer-records limits verdict (Some agreement) progress (Requested request) = refl
 answer-records limits verdict (Some agreement) progress (Sent message) = refl
 answer-records limits verdict (Some agreement) progress Released = refl
-answer-records limits verdict (Some agreement) progress PeerAborted = refl
+answer-records limits verdict (Some agreement) progress (PeerAborted source reason) = refl
 answer-records limits verdict (Some agreement) progress Stray = refl
 answer-records limits verdict (Some agreement) progress (Bad reason) = refl
 
@@ -272,7 +272,7 @@ none-before [] ys e = refl
 none-before (Requested request ∷ xs) ys e = cc
 none-before (Sent message ∷ xs) ys e = refl
 none-before (Released ∷ xs) ys e = refl
-none-before (PeerAborted ∷ xs) ys e = refl
+none-before (PeerAborted source reason ∷ xs) ys e = refl
 none-before (Stray ∷ xs) ys e = refl
 none-before (Bad reason ∷ xs) ys e = refl
 

@@ -16,3 +16,4 @@ pub mod Servings
 pub mod Cuts
 pub mod Looping
 pub mod Lines
+pub mod Watching

@@ -3,7 +3,8 @@ use Rattle.std.specs.Prelude.{Bool, true, false, if◌then◌else◌, Option, No
 use Rattle.dq_assoc.specs.declared.classes.Service.{Service}
 use Rattle.dq_assoc.specs.declared.classes.Service.TheVariants.{StudyRootFind, WorklistFind}
 use Rattle.dq_core.specs.declared.notes.LogEvent.{LogEvent}
-use Rattle.dq_core.specs.declared.notes.LogEvent.TheVariants.{Accepted, Rejected, Aborted, Released, Ended, Served}
+use Rattle.dq_assoc.specs.declared.association_end.AssociationEnd.TheVariants.{Rejected, Released, Aborted}
+use Rattle.dq_core.specs.declared.notes.LogEvent.TheVariants.{Accepted, Closed, Ended, Served}
 use Rattle.dq_wires.specs.declared.watched.Opened.{Opened}
 
 abbrev pub is_search : Service → Bool
@@ -14,18 +15,16 @@ is_search _ = false
 -- It has a line of its own: of messages only those on a presentation context of a query.
 abbrev pub has_line : LogEvent → Bool
 has_line (Accepted institution titles contexts) = true
-has_line (Rejected titles result source reason has_room) = true
-has_line (Aborted party source reason) = true
-has_line Released = false
+has_line (Closed titles (Rejected rejection)) = true
+has_line (Closed titles (Aborted party source reason)) = true
+has_line (Closed titles Released) = false
 has_line Ended = false
 has_line (Served service status answers query) = is_search service
 
 -- It ends an association, if one is open.
 abbrev pub ends_association : LogEvent → Bool
 ends_association (Accepted institution titles contexts) = false
-ends_association (Rejected titles result source reason has_room) = false
-ends_association (Aborted party source reason) = true
-ends_association Released = true
+ends_association (Closed titles end) = true
 ends_association Ended = true
 ends_association (Served service status answers query) = false
 

@@ -1,11 +1,12 @@
 //! A log of connections and their associations.
-ghost use Rattle.std.specs.Prelude.{◌≡◌};
+ghost use Rattle.std.specs.Prelude.{◌≡◌, ◌⊎◌, ◌++◌, [], ◌∷◌, map};
 ghost use Rattle.dq_wires.specs.Lines.{has_line};
+ghost use Rattle.dq_wires.specs.Watching.{newly_watched, shut_at, without_associations, without_shut};
 
 use crate::given_up::GivenUp;
 use crate::log_line::{LineContent, LogLine};
 use crate::watched::Watched;
-use dq_assoc::Service;
+use dq_assoc::{AssociationEnd, Service};
 use dq_core::{LogEvent, Note, Notes};
 use jiff::Timestamp;
 use std::alloc::{AllocError, Global};
@@ -32,8 +33,9 @@ use std::time::Clock;
 /// - `4 given up 192.0.2.7:40112 artim`, and the same with `quiet`: the peer's address, and why;
 /// - `- given up 192.0.2.7:40112 peer-connections`: it was closed as it came;
 /// - `- console schedule NORTH done`: an order of the console, and what was answered;
-/// - `- web GET NORTH /rs/studies 200 ms 3`: a request of the web front: its method, the institution,
-///   the path below that, the status of the response, and how many milliseconds it took;
+/// - `- web 192.0.2.7:40113 viewer GET NORTH /rs/studies 200 ms 3`: a request of the web front: its
+///   peer (and the address that a proxy gives for it), the label of its token, its method, the
+///   institution, the path below that, the status of the response, and how many milliseconds it took;
 /// - `- stopped fault 2`, `- stopped network`: the server stops;
 /// - `- 3 lines are lost`: so many could not be written before this one.
 ///
@@ -57,7 +59,9 @@ pub struct AssociationLog<L> {
 
 impl<L: Write + Drop> AssociationLog<L> {
     /// The log of wires on which no connection has come yet.
-    pub fn new(alloc: Global, lines: L) -> Self {
+    pub fn new(alloc: Global, lines: L) -> Self
+        ensures { result.watched.items ≡ [] }
+    {
         AssociationLog {
             alloc,
             lines,
@@ -70,19 +74,27 @@ impl<L: Write + Drop> AssociationLog<L> {
     }
 
     /// Tells that the server starts, and its version.
-    pub fn start(&mut self, version: &str) {
+    pub fn start(&mut self, version: &str)
+        ensures { self.new.watched ≡ self.old.watched }
+    {
         self.put(None, LineContent::Started(version));
     }
 
     /// Lines have from now on the time of a clock. Where it fails they keep the time before.
-    pub fn read_clock(&mut self, clock: &impl Clock) {
+    pub fn read_clock(&mut self, clock: &impl Clock)
+        ensures { self.new.watched ≡ self.old.watched }
+    {
         if let Ok(time) = Timestamp::now(clock) {
             self.time = time;
         }
     }
 
-    /// A connection came.
-    pub(crate) fn begin(&mut self, place: usize, peer: Option<SocketAddr>) {
+    /// A connection came. Where there is no memory for it, it is not watched.
+    pub(crate) fn begin(&mut self, place: usize, peer: Option<SocketAddr>)
+        ensures { (self.new.watched.items ≡ self.old.watched.items
+            ++ newly_watched place self.new.newest peer ∷ [])
+            ⊎ (self.new.watched.items ≡ self.old.watched.items) }
+    {
         self.newest = self.newest.saturating_add(1);
         let watched = Watched::new(place, self.newest, peer);
         if self.watched.push(watched).is_err() {
@@ -91,12 +103,16 @@ impl<L: Write + Drop> AssociationLog<L> {
     }
 
     /// A connection was closed as it came.
-    pub(crate) fn turn_away(&mut self, given_up: GivenUp) {
+    pub(crate) fn turn_away(&mut self, given_up: GivenUp)
+        ensures { self.new.watched ≡ self.old.watched }
+    {
         self.put(None, LineContent::GivenUp(given_up));
     }
 
     /// A connection is gone, and was given up if that is said.
-    pub(crate) fn end(&mut self, place: usize, given_up: Option<GivenUp>) {
+    pub(crate) fn end(&mut self, place: usize, given_up: Option<GivenUp>)
+        ensures { self.new.watched.items ≡ map (shut_at place) self.old.watched.items }
+    {
         let mut number = None;
         for watched in self.watched.iter_mut() {
             if watched.place == place && !watched.is_shut {
@@ -109,8 +125,12 @@ impl<L: Write + Drop> AssociationLog<L> {
         }
     }
 
-    /// Tells the notes of a turn, which began when the clock was last read.
-    pub fn tell(&mut self, notes: &Notes, clock: &impl Clock) {
+    /// Tells the notes of a turn, which began when the clock was last read. From then on connections
+    /// that are gone are not watched any more.
+    pub fn tell(&mut self, notes: &Notes, clock: &impl Clock)
+        ensures { without_associations self.new.watched.items
+            ≡ without_associations (without_shut self.old.watched.items) }
+    {
         let begun = self.time;
         self.read_clock(clock);
         let milliseconds = milliseconds_between(begun, self.time);
@@ -122,7 +142,9 @@ impl<L: Write + Drop> AssociationLog<L> {
     }
 
     // Tells a note, if there is a line of it, and the end of an association that it brings.
-    fn tell_note(&mut self, note: &Note, milliseconds: u64) {
+    fn tell_note(&mut self, note: &Note, milliseconds: u64)
+        ensures { without_associations self.new.watched.items ≡ without_associations self.old.watched.items }
+    {
         let Note { number, noted } = note;
         let time = self.time;
         let mut peer = None;
@@ -157,26 +179,34 @@ impl<L: Write + Drop> AssociationLog<L> {
     }
 
     /// Tells notes of the console, a line each.
-    pub fn note(&mut self, notes: &str) {
+    pub fn note(&mut self, notes: &str)
+        ensures { self.new.watched ≡ self.old.watched }
+    {
         for note in notes.lines() {
             self.put(None, LineContent::Console(note));
         }
     }
 
     /// Tells notes of the web front, a line each.
-    pub fn note_web(&mut self, notes: &str) {
+    pub fn note_web(&mut self, notes: &str)
+        ensures { self.new.watched ≡ self.old.watched }
+    {
         for note in notes.lines() {
             self.put(None, LineContent::Web(note));
         }
     }
 
     /// Tells that the server stops: by a fault of a number, or for want of connections.
-    pub fn stop(&mut self, fault: Option<u8>) {
+    pub fn stop(&mut self, fault: Option<u8>)
+        ensures { self.new.watched ≡ self.old.watched }
+    {
         self.put(None, LineContent::Stopped(fault));
     }
 
     // Writes a line, after one that says how many before it were lost.
-    fn put(&mut self, number: Option<u64>, told: LineContent) {
+    fn put(&mut self, number: Option<u64>, told: LineContent)
+        ensures { self.new.watched ≡ self.old.watched }
+    {
         if self.lost > 0 {
             if !self.is_put(None, LineContent::Lost(self.lost)) {
                 return self.lose(1);
@@ -189,7 +219,9 @@ impl<L: Write + Drop> AssociationLog<L> {
     }
 
     // Writes a line, and answers whether all of it was taken.
-    fn is_put(&mut self, number: Option<u64>, told: LineContent) -> bool {
+    fn is_put(&mut self, number: Option<u64>, told: LineContent) -> bool
+        ensures { self.new.watched ≡ self.old.watched }
+    {
         let line = LogLine {
             time: self.time,
             number,
@@ -208,7 +240,9 @@ impl<L: Write + Drop> AssociationLog<L> {
         }
     }
 
-    fn lose(&mut self, count: u64) {
+    fn lose(&mut self, count: u64)
+        ensures { self.new.watched ≡ self.old.watched }
+    {
         self.lost = self.lost.saturating_add(count);
     }
 }
@@ -218,8 +252,12 @@ fn is_told(noted: &LogEvent) -> bool
     ensures { result ≡ has_line noted.now }
 {
     match noted {
-        LogEvent::Accepted { .. } | LogEvent::Rejected { .. } | LogEvent::Aborted { .. } => true,
-        LogEvent::Released | LogEvent::Ended => false,
+        LogEvent::Ended
+        | LogEvent::Closed {
+            end: AssociationEnd::Released,
+            ..
+        } => false,
+        LogEvent::Accepted { .. } | LogEvent::Closed { .. } => true,
         LogEvent::Served { service, .. } => {
             *service == Service::StudyRootFind || *service == Service::WorklistFind
         }

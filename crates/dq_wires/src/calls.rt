@@ -1,4 +1,5 @@
 //! The calls of wires, with what was answered.
+use dq_core::Titles;
 use dq_list::Listed;
 use thiserror::Error;
 
@@ -16,6 +17,14 @@ pub enum ReadTurn {
     Nothing,
     /// The peer sends no more.
     Ended,
+}
+
+/// How far the association on a connection is: the titles of its request, once that is whole, and
+/// whether its last PDU was answered.
+#[derive(Clone, Copy)]
+pub struct Progress {
+    pub titles: Option<Titles>,
+    pub is_over: bool,
 }
 
 /// The outcome of a read, with the octets that came.

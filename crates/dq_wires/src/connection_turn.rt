@@ -7,7 +7,7 @@ ghost use Rattle.dq_wires.specs.Limits.{most_read};
 ghost use Rattle.dq_wires.specs.ServerSteps.{Moves, Fails};
 ghost use Rattle.dq_wires.specs.ConnectionTurns.{Ends, Hears, Waits, FailsToHear, ActionDone, ActionCut};
 
-use crate::calls::{ReadTurn, WireFault};
+use crate::calls::{Progress, ReadTurn, WireFault};
 use crate::fault::TurnFault;
 use crate::limits::READ_MOST;
 use crate::served_connection::ServedConnection;
@@ -125,6 +125,11 @@ fn receive<T: Tables, W: Wires>(
     match wires.read(wire.place(), buffer) {
         Ok(ReadTurn::Got(count)) => {
             hear(alloc, wire, server, &buffer[..count])?;
+            let progress = Progress {
+                titles: server.titles(wire.number()),
+                is_over: wire.is_closed(),
+            };
+            wires.learn(wire.place(), progress);
             Ok(true)
         }
         Ok(ReadTurn::Nothing) => {

@@ -1,7 +1,7 @@
 //! Wires around wires, which count the octets that are written.
 ghost use Rattle.std.specs.Prelude.{◌≡◌};
 
-use crate::calls::{ReadTurn, WireFault};
+use crate::calls::{Progress, ReadTurn, WireFault};
 use crate::wires::Wires;
 
 /// Wires that count the octets that are written over those inside.
@@ -41,6 +41,10 @@ impl<W: Wires> Wires for CountedWires<W> {
             self.written = self.written.saturating_add(count as u64);
         }
         taken
+    }
+
+    fn learn(&mut self, place: usize, progress: Progress) {
+        self.wires.learn(place, progress);
     }
 
     fn shut(&mut self, place: usize) -> Result<(), WireFault> {

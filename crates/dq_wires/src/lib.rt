@@ -22,13 +22,12 @@ mod server_step;
 mod socket;
 mod socket_connection;
 mod sockets;
-mod titles;
 mod turner;
 mod watched;
 mod wires;
 
 pub use association_log::AssociationLog;
-pub use calls::{Call, ReadOutcome, ReadTurn, WireFault};
+pub use calls::{Call, Progress, ReadOutcome, ReadTurn, WireFault};
 pub use clients::{Called, SocketClient};
 pub use fault::TurnFault;
 pub use given_up::{GivenUp, GivesUp, Limits, Reason};

@@ -1,8 +1,8 @@
 //! The lines of a log.
 use crate::given_up::GivenUp;
 use crate::watched::ServedCounts;
-use dq_assoc::Service;
-use dq_core::{LogEvent, Party, QuerySummary, Titles};
+use dq_assoc::{AssociationEnd, Party, Rejection, Service};
+use dq_core::{LogEvent, QuerySummary, Titles};
 use dq_list::Listed;
 use dq_value::stripped;
 use dq_vr::Tag;
@@ -56,9 +56,9 @@ struct Word<'a>(&'a [u8]);
 #[derive(Clone, Copy)]
 struct Address(Option<SocketAddr>);
 
-/// A pair of titles, the called one first.
+/// A pair of titles, the called one first, if a request told them.
 #[derive(Clone, Copy)]
-struct Pair(Titles);
+struct Pair(Option<Titles>);
 
 /// Tags as eight hexadecimal digits each, or `-` where there are none.
 #[derive(Clone, Copy)]
@@ -92,8 +92,11 @@ impl fmt::Display for Address {
 
 impl fmt::Display for Pair {
     fn fmt<W: fmt::Write>(&self, f: &mut fmt::Formatter<W>) -> fmt::Result {
-        let called = Word(stripped(&self.0.called));
-        let calling = Word(stripped(&self.0.calling));
+        let Some(titles) = &self.0 else {
+            return f.write_str("- -");
+        };
+        let called = Word(stripped(&titles.called));
+        let calling = Word(stripped(&titles.calling));
         write!(f, "{called} {calling}")
     }
 }
@@ -112,24 +115,25 @@ impl fmt::Display for Keys<'_> {
     }
 }
 
-/// Returns what this server means by the source and the reason of a rejection. One pair of them
-/// stands for titles that are nobody's, and for a maximum length without room for data.
-fn rejection_words(source: u8, reason: u8, has_room: bool) -> &'static str {
-    match (source, reason) {
-        (1, 1) if !has_room => "a maximum length below 8",
-        (1, 1) => "no institution has these titles",
-        (1, 2) => "another application context than DICOM's",
-        (2, 2) => "another protocol version",
-        (3, 2) => "the institution has as many associations as it may",
-        _ => "-",
+/// Returns what is meant by a rejection.
+fn rejection_words(rejection: Rejection) -> &'static str {
+    match rejection {
+        Rejection::ProtocolVersion => "another protocol version",
+        Rejection::ApplicationContext => "another application context than DICOM's",
+        Rejection::MaximumLength => "a maximum length below 8",
+        Rejection::Titles => "no institution has these titles",
+        Rejection::Associations => "the institution has as many associations as it may",
     }
 }
 
 /// How an association ended, in a word.
 fn ending_of(noted: &LogEvent) -> &'static str {
     match noted {
-        LogEvent::Released => "released",
-        LogEvent::Aborted { .. } => "aborted",
+        LogEvent::Closed {
+            end: AssociationEnd::Released,
+            ..
+        } => "released",
+        LogEvent::Closed { .. } => "aborted",
         _ => "lost",
     }
 }
@@ -172,33 +176,26 @@ fn write_query<W: fmt::Write>(
     )
 }
 
-/// Writes why an association is rejected or aborted.
-fn write_refusal<W: fmt::Write>(
+/// Writes why an association was rejected or aborted.
+fn write_end<W: fmt::Write>(
     f: &mut fmt::Formatter<W>,
-    noted: &LogEvent,
+    pair: Pair,
+    end: AssociationEnd,
     peer: Address,
 ) -> fmt::Result {
-    match noted {
-        LogEvent::Rejected {
-            titles,
-            result,
-            source,
-            reason,
-            has_room,
-        } => {
-            let pair = Pair(*titles);
-            let words = rejection_words(*source, *reason, *has_room);
+    match end {
+        AssociationEnd::Rejected(rejection) => {
+            let (result, source, reason) = rejection.numbers();
+            let words = rejection_words(rejection);
             write!(
                 f,
                 "rejected {pair} {peer} {result} {source} {reason} {words}"
             )
         }
-        LogEvent::Aborted {
-            party,
-            source,
-            reason,
-        } => write!(f, "aborted by the {} {source} {reason}", name_of(*party)),
-        _ => Ok(()),
+        AssociationEnd::Aborted(party, source, reason) => {
+            write!(f, "aborted by the {} {source} {reason}", name_of(party))
+        }
+        AssociationEnd::Released => Ok(()),
     }
 }
 
@@ -216,7 +213,7 @@ fn write_noted<W: fmt::Write>(
             contexts,
         } => {
             let name = Word(institution.as_slice());
-            let pair = Pair(*titles);
+            let pair = Pair(Some(*titles));
             let noun = if *contexts == 1 {
                 "context"
             } else {
@@ -237,7 +234,8 @@ fn write_noted<W: fmt::Write>(
                 " status {status:04x} answers {answers} ms {milliseconds}"
             )
         }
-        other => write_refusal(f, other, peer),
+        LogEvent::Closed { titles, end } => write_end(f, Pair(*titles), *end, peer),
+        LogEvent::Ended => Ok(()),
     }
 }
 

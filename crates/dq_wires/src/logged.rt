@@ -3,7 +3,7 @@ ghost use Rattle.std.specs.Prelude.{◌≤◌, length, IfOk};
 ghost use Rattle.dq_wires.specs.Logs.{IfGot};
 
 use crate::association_log::AssociationLog;
-use crate::calls::{ReadTurn, WireFault};
+use crate::calls::{Progress, ReadTurn, WireFault};
 use crate::given_up::GivesUp;
 use crate::wires::Wires;
 use std::io::Write;
@@ -50,6 +50,10 @@ impl<W: Wires + GivesUp, L: Write + Drop> Wires for LoggedWires<W, L> {
 
     fn write(&mut self, place: usize, octets: &[u8]) -> Result<usize, WireFault> {
         self.wires.write(place, octets)
+    }
+
+    fn learn(&mut self, place: usize, progress: Progress) {
+        self.wires.learn(place, progress);
     }
 
     fn shut(&mut self, place: usize) -> Result<(), WireFault> {

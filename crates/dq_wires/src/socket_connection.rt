@@ -2,76 +2,14 @@
 ghost use Rattle.std.specs.Prelude.{◌≤◌, length, IfOk};
 ghost use Rattle.dq_wires.specs.Logs.{IfGot};
 
-use crate::calls::{ReadTurn, WireFault};
+use crate::calls::{Progress, ReadTurn, WireFault};
 use crate::given_up::{GivenUp, Limits, Reason};
 use crate::socket::Socket;
-use crate::titles::Titles;
+use dq_core::Titles;
 use mio::event::Event;
 use std::io::ErrorKind;
 use std::net::SocketAddr;
 use std::time::Duration;
-
-/// The PDUs after which the server sends no other (PS3.8 section 9.2).
-const LAST_PDUS: [u8; 3] = [A_ASSOCIATE_RJ, A_RELEASE_RP, A_ABORT];
-
-const A_ASSOCIATE_RJ: u8 = 0x03;
-
-const A_RELEASE_RP: u8 = 0x06;
-
-const A_ABORT: u8 = 0x07;
-
-/// A PDU's type, a reserved octet and the length of its body (PS3.8 section 9.3.1).
-const HEADER: usize = 6;
-
-/// Where the PDUs begin that are answered, however their octets are cut (PS3.8 section 9.3.1): the
-/// octets of a header that is not whole, how many they are, and how many of a body are to come.
-#[derive(Clone, Copy)]
-struct Headers {
-    header: u64,
-    came: usize,
-    left: usize,
-}
-
-impl Headers {
-    const NONE: Headers = Headers {
-        header: 0,
-        came: 0,
-        left: 0,
-    };
-
-    // Lets octets pass. The answer is whether the header of a last PDU ends among them.
-    fn pass(&mut self, octets: &[u8]) -> bool {
-        let mut rest = octets;
-        let mut is_last = false;
-        for _ in 0..octets.len() {
-            let Some((first, others)) = rest.split_first() else {
-                return is_last;
-            };
-            if self.left > 0 {
-                let count = rest.len().min(self.left);
-                self.left -= count;
-                rest = &rest[count..];
-            } else {
-                is_last = self.take(*first) || is_last;
-                rest = others;
-            }
-        }
-        is_last
-    }
-
-    // Takes an octet of a header. The answer is whether it ends that of a last PDU.
-    fn take(&mut self, octet: u8) -> bool {
-        self.header = self.header << 8 | u64::from(octet);
-        self.came = self.came.saturating_add(1);
-        if self.came < HEADER {
-            return false;
-        }
-        self.came = 0;
-        let [_, _, kind, _, a, b, c, d] = self.header.to_be_bytes();
-        self.left = u32::from_be_bytes([a, b, c, d]) as usize;
-        LAST_PDUS.contains(&kind)
-    }
-}
 
 /// How far a connection is.
 #[derive(Clone, Copy, PartialEq, Eq)]
@@ -95,34 +33,47 @@ struct Readiness {
     is_ending: bool,
 }
 
-/// A connection's share of the reads, which it shares with others of the same titles.
+/// A connection's share of the reads, which it shares with others of the same titles, and of the
+/// further parts of answers, which it shares with all.
 #[derive(Clone, Copy)]
 struct Share {
-    /// Its titles, if the first octets that came on it have them.
+    /// The titles of its request, once that has come whole.
     titles: Option<Titles>,
     /// Whether it was read since the turn began.
     is_read: bool,
     /// How often another was read in its place since it was read last.
     passed_over: u64,
+    /// Whether all that was offered was written since octets came: what is offered next goes on with
+    /// the answer to these.
+    is_answered: bool,
+    /// How often its answer was put off since it last went on.
+    put_off: u64,
+}
+
+impl Share {
+    // Whether another has the same titles, or neither has told any.
+    fn is_alike(&self, other: &Share) -> bool {
+        match (&self.titles, &other.titles) {
+            (Some(own), Some(titles)) => own.are_alike(titles),
+            (None, None) => true,
+            _ => false,
+        }
+    }
 }
 
 /// A connection: its socket and its peer's address, what the system may have for it, its share of
-/// the reads, whether octets came and whether some wait to be sent, since when no octet has passed,
-/// how far it is and since when, where the PDUs begin that are answered, how many octets that wait
-/// were looked at for that, and why it was given up, if it was.
+/// the turns, whether octets wait to be sent, since when no octet has passed, how far it is and since
+/// when, and why it was given up, if it was.
 #[derive(Drop)]
 pub(crate) struct SocketConnection {
     socket: Socket,
     peer: Option<SocketAddr>,
     ready: Readiness,
     share: Share,
-    is_begun: bool,
     is_sending: bool,
     silence: Duration,
     stage: Stage,
     waited: Duration,
-    headers: Headers,
-    looked_at: usize,
     reason: Option<Reason>,
 }
 
@@ -141,14 +92,13 @@ impl SocketConnection {
                 titles: None,
                 is_read: false,
                 passed_over: 0,
+                is_answered: false,
+                put_off: 0,
             },
-            is_begun: false,
             is_sending: false,
             silence: Duration::ZERO,
             stage: Stage::Unasked,
             waited: Duration::ZERO,
-            headers: Headers::NONE,
-            looked_at: 0,
             reason: None,
         }
     }
@@ -199,14 +149,39 @@ impl SocketConnection {
     /// Whether another leaves its read to it: both have the same titles, or told none yet, and it was
     /// passed over more often, or where reads have taken long was read already.
     pub(crate) fn goes_before(&self, other: &SocketConnection, is_long: bool) -> bool {
-        self.share.titles == other.share.titles
+        self.share.is_alike(&other.share)
             && (is_long && self.share.is_read
                 || self.is_waiting() && self.share.passed_over > other.share.passed_over)
+    }
+
+    /// Learns how far its association is.
+    pub(crate) fn learn(&mut self, progress: Progress) {
+        self.share.titles = self.share.titles.or(progress.titles);
+        if progress.is_over {
+            self.stage = Stage::Closing;
+            self.waited = Duration::ZERO;
+        }
     }
 
     /// Notes that it leaves its read to another.
     pub(crate) fn give_way(&mut self) {
         self.share.passed_over = self.share.passed_over.saturating_add(1);
+    }
+
+    /// Whether what it is offered goes on with an answer, and the system may take it.
+    pub(crate) fn goes_on(&self) -> bool {
+        self.share.is_answered && self.ready.is_writable
+    }
+
+    /// Whether its answer waits to go on, and was put off more often than another's.
+    pub(crate) fn goes_on_before(&self, other: &SocketConnection) -> bool {
+        self.goes_on() && self.is_sending && self.share.put_off > other.share.put_off
+    }
+
+    /// Notes that what it is offered is left to a later turn.
+    pub(crate) fn put_off(&mut self) {
+        self.is_sending = true;
+        self.share.put_off = self.share.put_off.saturating_add(1);
     }
 
     /// Time has passed.
@@ -273,7 +248,7 @@ impl SocketConnection {
         match self.socket.read(buffer) {
             Ok(0) => Ok(ReadTurn::Ended),
             Ok(count) => {
-                self.take(&buffer[..count]);
+                self.take();
                 // Where there was room for more, the system has no more: it tells what comes later.
                 if count < buffer.len() {
                     self.ready.is_readable = self.ready.is_ending;
@@ -291,14 +266,11 @@ impl SocketConnection {
         }
     }
 
-    // These octets came.
-    fn take(&mut self, octets: &[u8]) {
-        if !self.is_begun {
-            self.share.titles = Titles::of_request(octets);
-        }
-        self.is_begun = true;
+    // Octets came.
+    fn take(&mut self) {
         self.share.is_read = true;
         self.share.passed_over = 0;
+        self.share.is_answered = false;
         self.silence = Duration::ZERO;
     }
 
@@ -306,7 +278,9 @@ impl SocketConnection {
     pub(crate) fn write(&mut self, octets: &[u8], limits: &Limits) -> Result<usize, WireFault>
         ensures { IfOk result (λ count. count ≤ length octets.now) }
     {
-        self.answer(octets);
+        if self.stage != Stage::Closing {
+            self.stage = Stage::Open;
+        }
         if self.is_late(limits) {
             self.reason = Some(Reason::Artim);
             return Err(WireFault);
@@ -322,21 +296,6 @@ impl SocketConnection {
         }
     }
 
-    // How far it is, once these octets are to be written. The first of them may have waited before:
-    // they are not looked at again.
-    fn answer(&mut self, octets: &[u8]) {
-        if self.stage == Stage::Closing {
-            return;
-        }
-        self.stage = Stage::Open;
-        let (_, others) = octets.split_at(self.looked_at.min(octets.len()));
-        self.looked_at = octets.len();
-        if self.headers.pass(others) {
-            self.stage = Stage::Closing;
-            self.waited = Duration::ZERO;
-        }
-    }
-
     // Writes as many octets as the system takes.
     fn send(&mut self, octets: &[u8]) -> Result<usize, WireFault>
         ensures { IfOk result (λ count. count ≤ length octets.now) }
@@ -349,7 +308,8 @@ impl SocketConnection {
             Ok(count) => {
                 self.silence = Duration::ZERO;
                 self.is_sending = count < octets.len();
-                self.looked_at = self.looked_at.saturating_sub(count);
+                self.share.is_answered = !self.is_sending;
+                self.share.put_off = 0;
                 Ok(count)
             }
             Err(error) => match error.kind() {

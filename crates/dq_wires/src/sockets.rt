@@ -1,7 +1,7 @@
 //! Wires over sockets.
 ghost use Rattle.std.specs.Prelude.{◌≡◌};
 
-use crate::calls::{ReadTurn, WireFault};
+use crate::calls::{Progress, ReadTurn, WireFault};
 use crate::given_up::{GivenUp, GivesUp, Limits, Reason};
 use crate::limits::MOST_WIRES;
 use crate::socket::{Door, Socket};
@@ -37,8 +37,8 @@ const PASSING: [i32; 16] = [
 /// Wires over the sockets of connections that come to a listening one. They ask the system only for
 /// what it has told to be ready, and tell no calls to contracts. A connection that they give up is
 /// one that ended. Where reads between two rests take long, one connection is read of those that have
-/// the same titles. The others bring nothing until it is their turn: one peer's many do not slow
-/// others.
+/// the same titles, and of the answers that go on one does in each turn. The others bring and take
+/// nothing until it is their turn: one peer's many do not slow others.
 #[derive(Drop)]
 pub struct SocketWires {
     clock: HostRuntime,
@@ -50,6 +50,8 @@ pub struct SocketWires {
     connections: Vec<Option<SocketConnection>>,
     is_busy: bool,
     reading: Reading,
+    /// Whether an answer went on in this turn.
+    has_gone_on: bool,
     limits: Limits,
     turned_away: Option<GivenUp>,
     rested: Option<Instant>,
@@ -97,6 +99,7 @@ impl SocketWires {
             connections,
             is_busy: false,
             reading: Reading::default(),
+            has_gone_on: false,
             limits: Limits::default(),
             turned_away: None,
             rested: None,
@@ -129,6 +132,7 @@ impl SocketWires {
     /// Begins a turn: nothing was done in it yet.
     pub fn begin_turn(&mut self) {
         self.is_busy = false;
+        self.has_gone_on = false;
         self.reading = Reading {
             was_short: self.reading.is_short,
             ..Reading::default()
@@ -261,6 +265,41 @@ impl SocketWires {
         false
     }
 
+    // Whether what goes on with an answer is left to a later turn. Each part of one is a page that had
+    // to be found, so one answer goes on in a turn: that which was put off most often.
+    fn is_put_off(&mut self, place: usize) -> bool
+        ensures { self.new.failed_accepts ≡ self.old.failed_accepts }
+    {
+        match self.connections.get(place) {
+            Some(Some(connection)) if connection.goes_on() => {}
+            _ => return false,
+        }
+        if !self.has_gone_on && !self.is_behind(place) {
+            self.has_gone_on = true;
+            return false;
+        }
+        self.is_busy = true;
+        if let Some(Some(connection)) = self.connections.get_mut(place) {
+            connection.put_off();
+        }
+        true
+    }
+
+    // Whether another's answer goes on before that of the connection at a place.
+    fn is_behind(&self, place: usize) -> bool {
+        let Some(Some(connection)) = self.connections.get(place) else {
+            return false;
+        };
+        for slot in self.connections.iter() {
+            if let Some(other) = slot {
+                if other.goes_on_before(connection) {
+                    return true;
+                }
+            }
+        }
+        false
+    }
+
     // The end of a connection of whose address there are as many as may be.
     fn one_too_many(&self, peer: Option<SocketAddr>) -> Option<GivenUp> {
         let most = self.limits.peer_connections?;
@@ -359,6 +398,9 @@ impl Wires for SocketWires {
     }
 
     fn write(&mut self, place: usize, octets: &[u8]) -> Result<usize, WireFault> {
+        if self.is_put_off(place) {
+            return Ok(0);
+        }
         let Some(Some(connection)) = self.connections.get_mut(place) else {
             return Err(WireFault);
         };
@@ -368,6 +410,12 @@ impl Wires for SocketWires {
                 self.is_busy = true;
                 Ok(count)
             }
+        }
+    }
+
+    fn learn(&mut self, place: usize, progress: Progress) {
+        if let Some(Some(connection)) = self.connections.get_mut(place) {
+            connection.learn(progress);
         }
     }
 

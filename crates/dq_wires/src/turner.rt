@@ -1,10 +1,8 @@
 //! The server over wires.
-ghost use Rattle.std.specs.Prelude.{◌≡◌, [], length, IsTrue, None, Some, Err, IfOk, IfErr, IfSome, OnOk, OnErr};
+ghost use Rattle.std.specs.Prelude.{◌≡◌, [], IsTrue, None, Some, Err, false, true, IfOk, IfErr, IfSome, OnOk, OnErr};
 ghost use Rattle.std.specs.Option.{option_copied};
 ghost use Rattle.dq_core.specs.Histories.{is_above};
 ghost use Rattle.dq_core.specs.Looking.{Looked, FailsToLook};
-ghost use Rattle.dq_core.specs.Showing.{found_for, steps_for};
-ghost use Rattle.dq_tables.specs.Lookups.{rows_of};
 ghost use Rattle.dq_wires.specs.ServerSteps.{Stepped, Moves, Fails};
 ghost use Rattle.dq_wires.specs.HeldConnections.{connection_with};
 ghost use Rattle.dq_wires.specs.Turns.{TurnsWent, TurnsCut};
@@ -15,11 +13,8 @@ use crate::fault::TurnFault;
 use crate::served_connection::ServedConnection;
 use crate::server_step::step_order;
 use crate::wires::Wires;
-use dq_core::{Event, Fault, Notes, Reply, SearchKind, Server, ShownPage, TableInspection};
-use dq_dataset::DataSet;
-use dq_list::Listed;
-use dq_match::Found;
-use dq_tables::{Kind, Tables};
+use dq_core::{Event, Fault, Notes, Reply, Server, TableInspection};
+use dq_tables::Tables;
 use std::alloc::Global;
 use std::marker::Model;
 
@@ -158,87 +153,30 @@ impl<T: Tables> Turner<T> {
         }
     }
 
-    /// Counts the rows of a kind that the institution of a name has. A fault stops the turner.
-    pub fn count(&mut self, kind: Kind, name: &[u8]) -> Result<u64, Fault>
-        ensures found { (T.state self.new.server.tables).honest → IfOk result (λ number.
-            number ≡ length (rows_of kind name.now (T.state self.old.server.tables).rows)) }
-        ensures looked { OnOk result (Looked T.state self.old.server self.new.server) }
-        ensures fails { IfErr result (FailsToLook T.state self.old.server self.new.server) }
-        ensures hold { self.new.hold ≡ self.old.hold }
-        ensures fault { OnOk result (self.new.fault ≡ self.old.fault) }
-        ensures stops { IfErr result (λ why.
-            self.new.fault ≡ Some (first_fault self.old.fault (TurnFault.Server why))) }
-    {
-        match self.server.count(kind, name) {
-            Ok(number) => Ok(number),
-            Err(fault) => {
-                self.fault = self.fault.or(Some(TurnFault::Server(fault)));
-                Err(fault)
-            }
-        }
-    }
-
-    /// Returns a page of what keys find among the records of the institution of a name, if there is
-    /// one. A fault stops the turner.
-    pub fn search(
-        &mut self,
-        name: &[u8],
-        kind: SearchKind,
-        keys: &DataSet,
-        page: ShownPage,
-    ) -> Result<Option<Found>, Fault>
-        ensures found { (T.state self.new.server.tables).honest → IfOk result (λ found.
-            found ≡ found_for self.old.server.institutions name.now
-            (T.state self.old.server.tables).rows kind keys.now page) }
-        ensures looked { OnOk result (Looked T.state self.old.server self.new.server) }
-        ensures fails { IfErr result (FailsToLook T.state self.old.server self.new.server) }
-        ensures hold { self.new.hold ≡ self.old.hold }
-        ensures fault { OnOk result (self.new.fault ≡ self.old.fault) }
-        ensures stops { IfErr result (λ why.
-            self.new.fault ≡ Some (first_fault self.old.fault (TurnFault.Server why))) }
-    {
-        match self.server.search(name, kind, keys, page) {
-            Ok(found) => Ok(found),
-            Err(fault) => {
-                self.fault = self.fault.or(Some(TurnFault::Server(fault)));
-                Err(fault)
-            }
-        }
-    }
-
-    /// The performed procedure steps of the institution of a name, if there is one, and of these a
-    /// page. A fault stops the turner.
-    pub fn steps(&mut self, name: &[u8], page: ShownPage) -> Result<Option<Listed<DataSet>>, Fault>
-        ensures found { (T.state self.new.server.tables).honest → IfOk result (λ found.
-            found ≡ steps_for self.old.server.institutions name.now
-            (T.state self.old.server.tables).rows page) }
-        ensures looked { OnOk result (Looked T.state self.old.server self.new.server) }
-        ensures fails { IfErr result (FailsToLook T.state self.old.server self.new.server) }
-        ensures hold { self.new.hold ≡ self.old.hold }
-        ensures fault { OnOk result (self.new.fault ≡ self.old.fault) }
-        ensures stops { IfErr result (λ why.
-            self.new.fault ≡ Some (first_fault self.old.fault (TurnFault.Server why))) }
-    {
-        match self.server.steps(name, page) {
-            Ok(steps) => Ok(steps),
-            Err(fault) => {
-                self.fault = self.fault.or(Some(TurnFault::Server(fault)));
-                Err(fault)
-            }
-        }
-    }
-
-    /// Looks at what keeps the rows. It is no event, and changes nothing.
+    /// Looks at what keeps the rows. It is not an event, and changes nothing. A fault stops the
+    /// turner. If the server has stopped before, the look returns `Stopped`, and the turner stays as
+    /// it is.
     pub fn look<L: TableInspection<T>>(&mut self, look: &L) -> Result<L::Seen, Fault>
-        ensures shows { (T.state self.new.server.tables).honest → IfOk result (λ seen.
-            L.shows look.now (T.state self.old.server.tables).rows seen) }
+        ensures shows { (T.state self.new.server.tables).honest → IfOk result
+            (L.shows look.now self.old.server.institutions (T.state self.old.server.tables).rows) }
         ensures looked { OnOk result (Looked T.state self.old.server self.new.server) }
-        ensures stopped { IfErr result (λ fault. fault ≡ Fault.Stopped) }
-        ensures unchanged { OnErr result (self.new ≡ self.old) }
+        ensures fails { IfErr result (FailsToLook T.state self.old.server self.new.server) }
+        ensures may_fail { OnErr result
+            (self.old.server.spent ≡ false → L.may_fail look.now) }
         ensures hold { self.new.hold ≡ self.old.hold }
-        ensures fault { self.new.fault ≡ self.old.fault }
+        ensures fault { OnOk result (self.new.fault ≡ self.old.fault) }
+        ensures stops { self.old.server.spent ≡ false → IfErr result (λ why.
+            self.new.fault ≡ Some (first_fault self.old.fault (TurnFault.Server why))) }
+        ensures unchanged { self.old.server.spent ≡ true → self.new ≡ self.old }
     {
-        self.server.look(look)
+        match self.server.look(look) {
+            Ok(seen) => Ok(seen),
+            Err(Fault::Stopped) => Err(Fault::Stopped),
+            Err(fault) => {
+                self.fault = self.fault.or(Some(TurnFault::Server(fault)));
+                Err(fault)
+            }
+        }
     }
 }
 

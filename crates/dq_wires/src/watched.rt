@@ -1,6 +1,7 @@
 //! A connection that is told of in a log.
 ghost use Rattle.std.specs.Prelude.{◌≡◌};
 ghost use Rattle.dq_wires.specs.Lines.{ended_by, open_after};
+ghost use Rattle.dq_wires.specs.Watching.{newly_watched};
 
 use dq_assoc::Service;
 use dq_core::LogEvent;
@@ -41,7 +42,9 @@ pub(crate) struct Watched {
 
 impl Watched {
     /// One that has just come.
-    pub(crate) fn new(place: usize, number: u64, peer: Option<SocketAddr>) -> Self {
+    pub(crate) fn new(place: usize, number: u64, peer: Option<SocketAddr>) -> Self
+        ensures { result ≡ newly_watched place number peer }
+    {
         Watched {
             place,
             number,
@@ -52,7 +55,9 @@ impl Watched {
     }
 
     /// Counts what is noted of it.
-    pub(crate) fn count(&mut self, noted: &LogEvent, time: Timestamp) {
+    pub(crate) fn count(&mut self, noted: &LogEvent, time: Timestamp)
+        ensures { self.new ≡ record self.old { opened = self.new.opened } }
+    {
         match noted {
             LogEvent::Accepted { .. } => {
                 self.opened = Some(Opened {
@@ -80,7 +85,7 @@ impl Watched {
         ensures left { self.new ≡ record self.old { opened = open_after noted.now self.old.opened } }
     {
         match noted {
-            LogEvent::Released | LogEvent::Ended | LogEvent::Aborted { .. } => self.opened.take(),
+            LogEvent::Closed { .. } | LogEvent::Ended => self.opened.take(),
             _ => None,
         }
     }

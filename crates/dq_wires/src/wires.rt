@@ -3,7 +3,7 @@ ghost use Rattle.std.specs.Prelude.{◌≡◌, ◌≤◌, ℕ, List, Option, len
 ghost use Rattle.dq_wires.specs.declared.calls.Call.{Call};
 ghost use Rattle.dq_wires.specs.Logs.{Logs, what_came, IfGot, failures_after_accept};
 
-use crate::calls::{Call, ReadTurn, WireFault};
+use crate::calls::{Call, Progress, ReadTurn, WireFault};
 
 /// Accepts connections, and reads and writes their octets, without waiting.
 pub trait Wires {
@@ -32,6 +32,12 @@ pub trait Wires {
         ensures told { Logs (log self.old) (log self.new) (Call.Write place octets.now result) }
         ensures bound { IfOk result (λ count. count ≤ length octets.now) }
         ensures failed { failed_accepts self.new ≡ failed_accepts self.old };
+
+    /// Learns how far the association on a connection is. It is not a call.
+    fn learn(&mut self, _place: usize, _progress: Progress)
+        ensures told { log self.new ≡ log self.old }
+        ensures failed { failed_accepts self.new ≡ failed_accepts self.old }
+    {}
 
     /// Gives up a connection. Its place is then free, also where it fails.
     fn shut(&mut self, place: usize) -> Result<(), WireFault>

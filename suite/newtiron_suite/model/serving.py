@@ -12,6 +12,7 @@ import errno
 import ipaddress
 import os
 import pathlib
+import re
 import selectors
 import socket
 import sqlite3
@@ -228,6 +229,8 @@ class Service:
     def order(self, line: str) -> str:
         if line == "report":
             return "\n".join(self.keeping.server.reported())
+        if line == "keys":
+            return "refused no web front" if self.front is None else self.front.read_anew()
         try:
             event = replies.event_of(line)
         except ValueError:
@@ -281,6 +284,14 @@ def console_at(path: str) -> socket.socket | None:
     return console
 
 
+def origin(text: str) -> str:
+    """An origin, as browsers write it (RFC 6454 section 6.2)."""
+    found = re.fullmatch(r"https?://[a-z0-9.-]+(?::([0-9]+))?", text, re.ASCII)
+    if not found or found[1] is not None and not 1 <= int(found[1]) <= 65535:
+        raise argparse.ArgumentTypeError("no origin")
+    return text
+
+
 class Words(argparse.ArgumentParser):
     def print_help(self, _: object = None) -> None:
         """A request for help is usage too."""
@@ -301,6 +312,8 @@ def parser() -> argparse.ArgumentParser:
     words.add_argument("--web-keys", metavar="<FILE>")
     words.add_argument("--web-listen", metavar="<ADDRESS>")
     words.add_argument("--web-host", metavar="<HOST>")
+    words.add_argument("--web-origin", type=origin, metavar="<ORIGIN>")
+    words.add_argument("--web-proxy", metavar="<ADDRESS>")
     words.add_argument("--web-peer-connections", type=number_in(0, 2 ** 32 - 1), metavar="<N>")
     words.add_argument("--log", action="store_true")
     words.add_argument("--log-file", metavar="<FILE>")
@@ -311,7 +324,8 @@ def serve(words: list[str], service: type = Service) -> int:
     """Serves as the words say; the exit status."""
     parsed = parser()
     words = parsed.parse_args(words)
-    beside_web = (words.web_listen, words.web_host, words.web_peer_connections)
+    beside_web = (words.web_listen, words.web_host, words.web_origin, words.web_proxy,
+                  words.web_peer_connections)
     if (words.web is None) != (words.web_keys is None) or words.web is None and any(
             word is not None for word in beside_web):
         parsed.error("--web and --web-keys go together")

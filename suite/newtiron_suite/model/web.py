@@ -2,13 +2,14 @@
 over the records of the models: for the suite of the web front. It cuts no requests off octets: it
 takes the parts of one.
 """
+import contextlib
 import dataclasses
 import json
 import re
 import urllib.parse
 from typing import Any
 
-from . import data_sets, json_objects, services
+from . import data_sets, json_objects, json_reading, services
 from .data_sets import Element
 from .dictionary import DICTIONARY
 from .replies import Institution
@@ -20,6 +21,9 @@ LEVELS = {"studies": b"STUDY", "series": b"SERIES", "images": b"IMAGE"}
 USUAL_PAGE, LONGEST_PAGE, LONGEST_VALUE = 100, 1000, 65534
 CHARACTER_SET, LEVEL, STEPS = (0x0008, 0x0005), (0x0008, 0x0052), (0x0040, 0x0100)
 LEFT_OUT = ("includefield=", "fuzzymatching=")
+# Text of these is in the record's character set, and there may be several values (PS3.5 sections
+# 6.1.2.2 and 6.2).
+SPELLED = {"LO", "PN", "SH", "UC"}
 JSON, DICOM_JSON, TEXT = "application/json", "application/dicom+json", "text/plain"
 UID = r"([^/]+)"
 # Each path below an institution, with its methods and what it asks for.
@@ -34,6 +38,8 @@ PATHS = [
 # What belongs to nobody, and what is the operator's.
 OPEN = {"/": "text/html", "/page.css": "text/css", "/page.js": "text/javascript", "/health": TEXT}
 OPERATORS = {"/metrics": "GET", "/backup": "POST"}
+# The right that is needed for what is asked; whatever else is asked is read.
+RIGHTS = {"schedule": "order", "withdraw": "order", "/metrics": "metrics", "/backup": "backup"}
 # What a response says where fuzzy matching was asked for (PS3.18 section 8.3.4.2).
 LITERAL = ('299 newtiron "The fuzzymatching parameter is not supported. Only literal matching has '
            'been performed."')
@@ -41,6 +47,18 @@ LITERAL = ('299 newtiron "The fuzzymatching parameter is not supported. Only lit
 IGNORED = '299 newtiron "An unknown parameter was ignored."'
 # The same where a page has as many answers as it may have.
 FULL = '299 newtiron "The page is full. Additional results can be requested by offset."'
+# The media types under which an entry is sent as a data set: its own, that of any octets, and the
+# one that senders give what they know no type of.
+DATA_SET_TYPES = {"application/dicom", "application/octet-stream",
+                  "application/x-www-form-urlencoded"}
+# The methods that only look; what a response to a page of the viewer's origin says besides, and
+# what one to a CORS-preflight request (the CORS protocol of the Fetch standard).
+LOOKS = ("GET", "HEAD")
+SHARED = {"Access-Control-Expose-Headers": "Warning", "Vary": "Origin"}
+PREFLIGHT = {"Access-Control-Allow-Methods": "GET, HEAD",
+             "Access-Control-Allow-Headers": "Accept, Authorization",
+             "Access-Control-Max-Age": "600"}
+CORS = {"access-control-allow-origin", *map(str.lower, [*SHARED, *PREFLIGHT])}
 # The statuses of the refusals of orders.
 REFUSED_ORDERS = {1: 400, 2: 400, 3: 409, 4: 507, 5: 404, 6: 404}
 
@@ -62,6 +80,26 @@ def refused(status: int, code: int | str, **fields: str) -> Answer:
                   fields)
 
 
+def spellings(value: str) -> list[bytes]:
+    """The octets by which a value may be kept: UTF-8, and those of each set of one octet a
+    character that has all of its characters, of which none is from 80H to 9FH."""
+    found = [value.encode()]
+    for codec in json_objects.ONE_OCTET.values():
+        with contextlib.suppress(UnicodeEncodeError):
+            octets = value.encode(codec)
+            found += [octets] * (not re.search(b"[\x80-\x9f]", octets))
+    return list(dict.fromkeys(found))
+
+
+def in_spellings(octets: bytes) -> bytes:
+    """The values of a key, each in each of its spellings; as they are where they are no UTF-8."""
+    try:
+        values = octets.decode().split("\\")
+    except UnicodeDecodeError:
+        return octets
+    return b"\\".join(octets for value in values for octets in spellings(value))
+
+
 def value_of(vr: str, text: str) -> bytes | None:
     """The octets of a value; a value of other than text, UIDs and unsigned shorts cannot be
     given."""
@@ -75,7 +113,7 @@ def value_of(vr: str, text: str) -> bytes | None:
     if vr == "UI":
         # a list of UIDs may have commas (PS3.18 section 8.3.4.1)
         octets = octets.replace(b",", b"\\")
-    return data_sets.padded(vr, octets)
+    return data_sets.padded(vr, in_spellings(octets) if vr in SPELLED else octets)
 
 
 def tag_of(name: str) -> Any:
@@ -197,11 +235,33 @@ def place_of(path: str) -> Any:
     return (name, match.groups(), methods) if match and name != "*" else ("", (), {})
 
 
-def ranges_in(fields: Any) -> Any:
-    """The media types and their ranges that an Accept names."""
+def kind_of(target: str) -> str:
+    """The kind of the resource at a target, by which requests are counted."""
+    path = host_and_path(target, None)[1].partition("?")[0]
+    if path in OPEN or path in OPERATORS:
+        return "page" if path.startswith("/page") or path == "/" else path[1:]
+    below = path.partition("/")[2].partition("/")
+    match = next((methods for pattern, methods in PATHS if below[0] != "*" and below[1]
+                  and re.fullmatch(pattern, below[2], re.S)), {})
+    kind = next(iter(match.values()), "none")
+    return {"images": "instances", "withdraw": "worklist", "relational": "none"}.get(kind, kind)
+
+
+def ranges_in(fields: Any, name: str = "accept") -> Any:
+    """The media types and their ranges that an Accept names, or another field."""
     return {word.lower() for word in re.split(r"[,; \t]",
-                                              fields.get("accept",
-                                                         ""))} if "accept" in fields else set()
+                                              fields.get(name, ""))} if name in fields else set()
+
+
+def entry_octets(fields: Any, body: bytes) -> bytes | Answer:
+    """The data set of an entry that a body holds, by its media type, or the refusal."""
+    types = ranges_in(fields, "content-type")
+    if DICOM_JSON in types:
+        try:
+            return data_sets.canonical(json_reading.read(body), data_sets.EXPLICIT)
+        except json_reading.Fault as fault:
+            return refused(400, str(fault))
+    return refused(415, "media type") if types and not types & DATA_SET_TYPES else body
 
 
 def key_in(fields: Any) -> Any:
@@ -212,12 +272,14 @@ def key_in(fields: Any) -> Any:
 
 class Front:
     """The front over the institutions of a model, with a key for each name, and `*` for the
-    operator."""
+    operator. A key that has only one right is in `limited`, after its name and the right."""
 
     def __init__(self, institutions: list[Institution], keys: dict[str, str],
-                 host: str | None = None) -> None:
+                 host: str | None = None, viewer: str | None = None) -> None:
         self.institutions, self.keys = {one.name: one for one in institutions}, keys
+        self.limited: list[tuple[str, str, str]] = []
         self.hosts = {"127.0.0.1", "localhost", "[::1]"} | ({host} if host else set())
+        self.viewer = viewer
 
     def answer(self, method: str, target: str, fields: dict[str, str], body: bytes = b"",
                is_old: bool = False) -> Answer:
@@ -225,9 +287,22 @@ class Front:
         lower case; that to HEAD is that to GET. Of what is the server's own, as the page, the
         metrics and a backup, it has the status and the kind alone."""
         why = self.judged(method, target, fields, is_old)
-        if why:
-            return why
+        return why or self.shared(self.given(method, target, fields, body), fields)
+
+    def shared(self, answer: Answer, fields: dict[str, str]) -> Answer:
+        """An answer, which pages of the viewer's origin may read where one of them asked."""
+        if self.is_of_viewer(fields):
+            answer.fields |= {"Access-Control-Allow-Origin": self.viewer, **SHARED}
+        return answer
+
+    def is_of_viewer(self, fields: dict[str, str]) -> bool:
+        return self.viewer is not None and fields.get("origin") == self.viewer
+
+    def given(self, method: str, target: str, fields: dict[str, str], body: bytes) -> Answer:
+        """The answer to a request that is let in."""
         path, _, query = host_and_path(target, None)[1].partition("?")
+        if method == "OPTIONS":
+            return Answer(204, fields=dict(PREFLIGHT))
         if path in OPEN or path in OPERATORS:
             return Answer(200, OPEN.get(path, TEXT))
         name, words, methods = place_of(path)
@@ -238,22 +313,36 @@ class Front:
 
     def judged(self, method: str, target: Any, fields: Any, is_old: bool = False) -> Any:
         """The refusal of a request by its head; None where its body is read."""
+        why = self.why_refused(method, target, fields, is_old)
+        return why and self.shared(why, fields)
+
+    def why_refused(self, method: str, target: Any, fields: Any, is_old: bool) -> Any:
         host, target = host_and_path(target, fields.get("host"))
         path = target.partition("?")[0]
         if "host" not in fields and not is_old or not is_plain(path):
             return refused(400, "request")
         why = self.not_admitted(host, path, fields)
+        name, _, methods = place_of(path)
+        if (why is None or why.status == 403) and self.is_of_viewer(fields) and name not in (
+                "", "*") and "GET" in methods:
+            # (looking is open to the viewer, and so is asking for leave to look)
+            if method == "OPTIONS" and fields.get("access-control-request-method") in LOOKS:
+                return None
+            why = None if method in LOOKS else why
         if why:
             return why
-        name, _, methods = place_of(path)
         if not methods:
             return refused(404, "path")
         if looking(method) not in methods:
             return refused(405, "method",
                            Allow=", ".join("GET, HEAD" if one == "GET" else one for one in methods))
-        return None if path in OPEN or self.is_opened(name, fields) else refused(401, "key",
-                                                                                 **{
-            "WWW-Authenticate": "Bearer"})
+        if path in OPEN:
+            return None
+        rights = self.rights(name, fields)
+        if not rights:
+            return refused(401, "key", **{"WWW-Authenticate": "Bearer"})
+        needed = RIGHTS.get(methods[looking(method)], "read")
+        return None if {None, needed} & rights else refused(403, "right")
 
     def not_admitted(self, host: str | None, path: str, fields: Any) -> Any:
         """The refusal of another host, or of a page of another origin; the page itself may be
@@ -268,9 +357,13 @@ class Front:
         return None if site in (None, "same-origin",
                                 "none") or is_opening else refused(403, "origin")
 
-    def is_opened(self, name: str, fields: dict[str, str]) -> bool:
+    def rights(self, name: str, fields: dict[str, str]) -> set[str | None]:
+        """The rights of the given key with a name: none where it does not open that; None is all
+        that the name has."""
         given = key_in(fields)
-        return given is not None and self.keys.get(name) == given
+        lines = [(name, None, self.keys.get(name)), *self.limited]
+        return {right for whose, right, key in lines
+                if given is not None and (whose, key) == (name, given)}
 
     @staticmethod
     def perform(institution: Institution, subject: str, words: tuple[str, ...], query: str,
@@ -282,7 +375,10 @@ class Front:
             return Answer(200, JSON,
                           json.dumps(counted(institution), separators=(",", ":")).encode())
         if subject in ("schedule", "withdraw"):
-            number = services.schedule(records, body) if subject == "schedule" else \
+            octets = entry_octets(fields, body) if subject == "schedule" else b""
+            if isinstance(octets, Answer):
+                return octets
+            number = services.schedule(records, octets) if subject == "schedule" else \
                 services.withdraw(records, urllib.parse.unquote_to_bytes(words[0]))
             if number:
                 return refused(REFUSED_ORDERS[number], number)

@@ -10,6 +10,7 @@ import contextlib
 import email.utils
 import hashlib
 import http.client
+import ipaddress
 import pathlib
 import re
 import selectors
@@ -35,12 +36,14 @@ FIXED = {"Cache-Control": "no-store", "X-Content-Type-Options": "nosniff",
                                     "connect-src 'self'; base-uri 'none'; "
                                     "form-action 'none'; frame-ancestors 'none'"}
 TOKEN = rb"[!#$%&'*+.^_`|~0-9A-Za-z-]+"
-KEY_LINE = re.compile(r"(\*|[A-Z0-9_]{1,16}) ([0-9a-fA-F]{64})")
+KEY_LINE = re.compile(r"(?:(?P<name>[A-Z0-9_]{1,16})(?: (?P<right>read|order))?"
+                      r"|\*(?: (?P<server>metrics|backup))?)"
+                      r" (?P<digest>[0-9a-fA-F]{64})(?: [A-Za-z0-9_.-]{1,32})?")
 # The fields that count, each of which may stand once.
 SINGLE = {"host", "content-length", "transfer-encoding", "authorization", "origin",
-          "sec-fetch-site", "sec-fetch-dest", "expect"}
+          "sec-fetch-site", "sec-fetch-dest", "access-control-request-method", "expect"}
 # Lists, whose values are joined (RFC 9110 section 5.3).
-LISTS = {"connection", "accept"}
+LISTS = {"connection", "accept", "content-type"}
 SERVICES = {C_ECHO: "echo", C_FIND: "find", C_STORE: "store", N_CREATE: "create", N_SET: "set"}
 OUTCOMES = {2: "accepted", 3: "rejected", 6: "released", 7: "aborted"}
 BOUNDS = (0.001, 0.005, 0.01, 0.05, 0.1, 0.5, 1)
@@ -48,6 +51,7 @@ HELP = {"rows": "Rows that are kept.", "rows_limit": "Rows that may be kept.",
         "associations_open": "Associations that are open.",
         "associations_total": "Associations since the start.",
         "operations_total": "Messages that were answered.",
+        "http_requests_total": "Requests that were answered.",
         "turn_seconds": "Turns of all connections.", "memory_bytes": "Memory of the server."}
 
 Request = collections.namedtuple("Request",
@@ -59,25 +63,31 @@ class Refused(Exception):
 
 
 class BadKeys(Exception):
-    """A file that tells no keys."""
+    """A file that tells no keys: the number of its first bad line, 0 where it has none or cannot be
+    read, and the words for why."""
 
 
-def read_keys(path: str) -> dict[str, set[str]]:
-    """The names of the keys' digests."""
-    found = {}
+# The names and the rights of keys, by their digests; a right of None is all that the name has.
+Digests = dict[str, set[tuple[str, str | None]]]
+
+
+def read_keys(path: str) -> Digests:
+    """The keys of a file."""
+    found: Digests = {}
     try:
         lines = pathlib.Path(path).read_bytes().decode().split("\n")
     except (OSError, UnicodeDecodeError):
-        raise BadKeys(0) from None
+        raise BadKeys(0, "failed") from None
     for number, line in enumerate(lines, 1):
         line = line.removesuffix("\r")
         if line and not line.startswith("#"):
             key = KEY_LINE.fullmatch(line)
             if key is None:
-                raise BadKeys(number)
-            found.setdefault(key[2].lower(), set()).add(key[1])
+                raise BadKeys(number, f"line {number}")
+            found.setdefault(key["digest"].lower(), set()).add(
+                (key["name"] or "*", key["right"] or key["server"]))
     if not found:
-        raise BadKeys(0)
+        raise BadKeys(0, "line 0")
     return found
 
 
@@ -148,15 +158,15 @@ def check_start(line: bytes | None, octets: bytes) -> re.Match[bytes] | None:
 class Keyed(web.Front):
     """The model's front, which knows digests of keys."""
 
-    def __init__(self, institutions: list[Institution], digests: dict[str, set[str]],
-                 host: str) -> None:
-        super().__init__(institutions, {}, host)
+    def __init__(self, institutions: list[Institution], digests: Digests,
+                 host: str | None, viewer: str | None) -> None:
+        super().__init__(institutions, {}, host, viewer)
         self.digests = digests
 
-    def is_opened(self, name: str, fields: dict[str, str]) -> bool:
+    def rights(self, name: str, fields: dict[str, str]) -> set[str | None]:
         given = web.key_in(fields)
-        return (given is not None
-                and name in self.digests.get(hashlib.sha256(given.encode()).hexdigest(), ()))
+        known = self.digests.get(hashlib.sha256((given or "").encode()).hexdigest(), set())
+        return {right for whose, right in known if given is not None and whose == name}
 
 
 class Caller:
@@ -174,6 +184,7 @@ class Counters:
     def __init__(self) -> None:
         self.outcomes, self.operations, self.turns = (collections.Counter(), collections.Counter(),
                                                       [])
+        self.requests: collections.Counter[tuple[str, int]] = collections.Counter()
 
     def count_sent(self, octets: bytes) -> None:
         """Counts what an association is sent first, or at its end."""
@@ -185,13 +196,21 @@ class Counters:
 class WebService:
     """The front beside the service of associations, whose events are `keeping`'s."""
 
-    def __init__(self, keeping: Keeping, digests: dict[str, set[str]], address: tuple[str, int],
-                 host: str) -> None:
-        self.keeping, self.counters, self.callers = keeping, Counters(), []
-        self.front = Keyed(keeping.server.institutions, digests, host)
+    def __init__(self, keeping: Keeping, path: str, address: tuple[str, int],
+                 host: str | None, viewer: str | None) -> None:
+        self.keeping, self.counters, self.callers, self.path = keeping, Counters(), [], path
+        self.front = Keyed(keeping.server.institutions, read_keys(path), host, viewer)
         family = socket.AF_INET6 if ":" in address[0] else socket.AF_INET
         self.listener = socket.create_server(address, family=family, backlog=128)
         self.listener.setblocking(False)
+
+    def read_anew(self) -> str:
+        """The console's answer to the order that the file of keys is read anew."""
+        try:
+            self.front.digests = read_keys(self.path)
+        except BadKeys as bad:
+            return f"refused {bad.args[1]}"
+        return "done"
 
     def watched(self) -> Iterator[Any]:
         if len(self.callers) < MOST:
@@ -236,6 +255,7 @@ class WebService:
         try:
             request = cut_off(caller.octets) if caller.octets.strip(b"\r\n") else None
         except Refused as refused:
+            self.counters.requests["none", refused.args[0]] += 1
             caller.unsent, caller.octets, caller.is_over = spelled("", web.refused(*refused.args),
                                                                    True), b"", True
             return True
@@ -244,6 +264,7 @@ class WebService:
         if request.body is None:
             why = self.front.judged(request.method, request.target, request.fields, request.is_old)
             if why:
+                self.counters.requests[web.kind_of(request.target), why.status] += 1
                 caller.unsent, caller.octets, caller.is_over = spelled(request.method, why,
                                                                        True), b"", True
                 return True
@@ -254,7 +275,9 @@ class WebService:
         caller.octets, caller.was_told = caller.octets[request.extent:], False
         if request.is_last:
             caller.octets, caller.is_over = b"", True
-        caller.unsent = spelled(request.method, self.answer(request), request.is_last)
+        answer = self.answer(request)
+        self.counters.requests[web.kind_of(request.target), answer.status] += 1
+        caller.unsent = spelled(request.method, answer, request.is_last)
         return True
 
     def answer(self, request: Request) -> web.Answer:
@@ -311,6 +334,9 @@ class WebService:
                   for (field, name),
                   count in sorted(self.keeping.server.served.items()) if field in SERVICES]
         yield from sampled("operations_total", "counter", served)
+        asked = [(f'{{kind="{kind}",status="{status}"}}', count)
+                 for (kind, status), count in sorted(self.counters.requests.items())]
+        yield from sampled("http_requests_total", "counter", asked)
         turns = self.counters.turns
         buckets = [(f'_bucket{{le="{bound}"}}', sum(one <= bound for one in turns))
                    for bound in BOUNDS]
@@ -347,5 +373,7 @@ def begun(keeping: Keeping, words: argparse.Namespace) -> WebService | None:
     """The front that the words ask for; None where they ask for none."""
     if words.web is None:
         return None
-    return WebService(keeping, read_keys(words.web_keys), (words.web_listen or HOST, words.web),
-                      words.web_host)
+    if words.web_proxy is not None:
+        ipaddress.ip_address(words.web_proxy)
+    return WebService(keeping, words.web_keys, (words.web_listen or HOST, words.web),
+                      words.web_host, words.web_origin)

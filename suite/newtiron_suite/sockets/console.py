@@ -26,7 +26,7 @@ def found_entries(client: Client) -> int:
 BAD_LINES = [b"", b"x", b"schedule", b"schedule NORTH", b"schedule NORTH 0", b"schedule north 00",
              b"open 1", b"piece 1 00",
              b"end 1", b"pull 1", b"report NORTH", b" report", b"report ", b"report\r",
-             b"withdraw NORTH", b"schedule NORTH 0g",
+             b"keys NORTH", b"keys ", b"KEYS", b"withdraw NORTH", b"schedule NORTH 0g",
              b"withdraw NORTH 53\xff", b"\0", b"POST / HTTP/1.1\r"]
 
 
@@ -45,6 +45,7 @@ def console(tally: Tally, _: object) -> None:
                     desk.ask(schedule[0].replace("NORTH", "EAST")) == "refused 6")
         tally.check("a data set that cannot be read", desk.ask("schedule NORTH 00") == "refused 1")
         tally.check("an entry that is not complete", desk.ask("schedule NORTH -") == "refused 2")
+        tally.check("no web front has keys", desk.ask("keys") == "refused no web front")
         tally.check("no such entry", desk.ask("withdraw NORTH 5339") == "refused 5")
         tally.check("orders are still taken", desk.ask(schedule[1]) == "done")
         desk.send(f"{schedule[2]}\n{withdraw}\n{withdraw}\n".encode())
@@ -176,6 +177,12 @@ def searches(tally: Tally, _: object) -> None:
                              ("steps NORTH PatientID=P1", "refused keyword PatientID=P1")):
             found, end = shown(desk, line)
             tally.check(line, not found and end == answer, end, found)
+        client.send(store_of("1.2.3.1.1", "1.2.3", PatientName="0x4dfc6c6c6572",
+                             SpecificCharacterSet=f"0x{b'ISO_IR 100'.hex()}"))
+        tally.check("an image with a name in Latin-1", client.status() == 0)
+        found, end = shown(desk, "studies SOUTH PatientName=M%C3%BCller")
+        tally.check("a name in Latin-1 is found by its characters", end == "end 1" and
+                    [value_in(one, STUDY_UID) for one in found] == ["1.2.3"], end, found)
         tally.check("a search of nobody", told_to(server.console(), b"studies\n") == b"bad line\n")
         tally.check("searches: it goes on", desk.ask("report").startswith("NORTH studies 3 ")
                     and not server.errors(), server.errors())

@@ -104,8 +104,12 @@ def killed(tally: Tally, folder: pathlib.Path) -> None:
     tally.check("a run without a stop",
                 run.is_done() and prefixes.digest(rows_in(folder / "whole.db", folder))
                 == prefixes.last, run)
-    places = []
-    for turn in range(KILLS):
+    last, places = prefixes.seen[prefixes.last], []
+    # a slow machine ends more runs before the first operation or after the last: then some more
+    for turn in range(4 * KILLS):
+        inside = {at for at in places if at and at < last}
+        if turn >= KILLS and len(inside) >= KILLS // 3:
+            break
         path = folder / f"killed_{turn}.db"
         child = subprocess.Popen([*words, str(path)], stdin=subprocess.PIPE,
                                  stdout=subprocess.DEVNULL, stderr=subprocess.DEVNULL)
@@ -122,7 +126,6 @@ def killed(tally: Tally, folder: pathlib.Path) -> None:
             run = Run(["replay", *options(configuration), "--store", path], capture)
             tally.check(f"killed {turn}: played again", run.is_done()
                         and prefixes.digest(rows_in(path, folder)) == prefixes.last, run)
-    last = prefixes.seen[prefixes.last]
     inside = {at for at in places if at and at < last}
     tally.check("runs that were ended between two operations", len(inside) >= KILLS // 3,
                 sorted(inside))

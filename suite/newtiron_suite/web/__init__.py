@@ -4,6 +4,8 @@
                 elsewhere
     keys        no key, a wrong one, another institution's and the operator's are refused with the
                 same octets; files of keys, and those that are refused
+    rights      what keys with only one right may do, and what they may not
+    anew        the file of keys, read anew by the console's order
     hospitals   two hospitals with the same UIDs: each is shown its own rows
     searches    studies, series, images, entries and steps, page by page, with keys and with words
                 that are none; forms that are accepted, and the warning of fuzzy matching
@@ -13,15 +15,18 @@
     methods     other methods, HEAD, paths that are none, and those that go up
     hosts       names of the host, targets in absolute-form, origins and sites that are refused,
                 links of other sites
+    viewers     a viewer of another origin: what its pages may read, and other origins
     grammar     requests that are none, that are too long, that come in pieces or many at once;
                 100-continue, and HTTP/1.0
     slow        clients that say nothing or read nothing: others are served beside them
     late        heads and bodies that do not come in their time
     crowd       more connections of one address than it may have
+    places      idle connections, which give way to those that come
     many        100 connections
     metrics     each line of the metrics, and what they count
     backup      the operator's backup, and its refusals
     log         the line of each request
+    proxies     what a proxy says of the address of its clients, and how many it may connect
     curl        the same by curl, where it is installed
     lists       the page in headless Chromium, where it is installed: its lists, their order,
                 searches and pages
@@ -40,19 +45,22 @@ import sys
 from ..tally import Part, play_parts
 from .entries import entries, looks
 from .keys import keys
-from .loads import crowd, late, many, slow
+from .loads import crowd, late, many, places, slow
 from .operator import backup, curl, log, metrics
-from .others import nginx, orthanc
+from .others import nginx, orthanc, proxies
 from .page import browser, items, lists, page, picture
 from .requests import grammar, hosts, methods
+from .rights import anew, rights
 from .searches import hospitals, searches
+from .viewers import viewers
 
 PARTS: dict[str, Part] = {
-    "page": page, "keys": keys, "hospitals": hospitals, "searches": searches, "entries": entries,
-    "looks": looks, "methods": methods, "hosts": hosts, "grammar": grammar, "slow": slow,
-    "late": late, "crowd": crowd, "many": many, "metrics": metrics, "backup": backup, "log": log,
-    "curl": curl, "lists": lists, "items": items, "browser": browser, "orthanc": orthanc,
-    "nginx": nginx,
+    "page": page, "keys": keys, "rights": rights, "anew": anew, "hospitals": hospitals,
+    "searches": searches, "entries": entries, "looks": looks, "methods": methods, "hosts": hosts,
+    "viewers": viewers, "grammar": grammar, "slow": slow, "late": late, "crowd": crowd,
+    "places": places, "many": many, "metrics": metrics, "backup": backup, "log": log,
+    "proxies": proxies, "curl": curl, "lists": lists, "items": items, "browser": browser,
+    "orthanc": orthanc, "nginx": nginx,
 }
 
 

@@ -9,6 +9,7 @@ import sqlite3
 import subprocess
 import sys
 import tempfile
+from collections.abc import Iterable
 from typing import Any
 
 from ..client import HOST, Serving, free_port
@@ -57,26 +58,33 @@ HOSPITALS = {"NORTH": ("CT1", "DOE^JANE"), "SOUTH": ("CT2", "ROE^RICHARD")}
 WORKLIST = message("find 1 7 1 worklist PatientName= ScheduledProcedureStepSequence= { }")
 
 
-def key_line(folder: pathlib.Path, name: str) -> str:
+def key_line(folder: pathlib.Path, name: str, *words: str) -> str:
     """The key of a name, which tools/web_key adds to the file of keys of a folder."""
-    done = subprocess.run([TOP / "tools/web_key", "--add", folder / "keys", name],
+    done = subprocess.run([TOP / "tools/web_key", "--add", folder / "keys", *words, name],
                           capture_output=True, text=True, check=True)
     return done.stdout.removesuffix("\n")
 
 
 class Pair:
-    """The program with its front, and the model: what happens happens to both."""
+    """The program with its front, and the model: what happens happens to both. Beside the keys of
+    all names there are those of `limited`: a name, its only right, and a label."""
 
     def __init__(self, folder: pathlib.Path, *words: pathlib.Path | str,
-                 configuration: str = "hospitals", web_host: str | None = None) -> None:
+                 configuration: str = "hospitals", web_host: str | None = None,
+                 web_origin: str | None = None,
+                 limited: Iterable[tuple[str, str, str]] = ()) -> None:
         self.folder = pathlib.Path(tempfile.mkdtemp(dir=folder))
         path = CONFIGURATIONS / f"{configuration}.toml"
         self.model = replies.Server(replies.read_configuration(path.read_text()))
         self.keys = {name: key_line(self.folder, name)
                      for name in [*[one.name for one in self.model.institutions], "*"]}
-        self.front = web.Front(self.model.institutions, self.keys, web_host)
+        self.front = web.Front(self.model.institutions, self.keys, web_host, web_origin)
+        self.front.limited = [
+            (name, right, key_line(self.folder, name, "--right", right, "--label", label))
+            for name, right, label in limited]
         self.port = free_port()
         host = ["--web-host", web_host] if web_host else []
+        host += ["--web-origin", web_origin] if web_origin else []
         self.server = Serving(PROGRAM, "--config", path, "--web", self.port, "--web-keys",
                               self.folder / "keys", *host, *words,
                               has_console=True)
@@ -122,8 +130,10 @@ class Pair:
                     and told.body == content)
         for field, value in wanted.fields.items():
             is_right = is_right and told.fields.get(field.lower()) == value
+        others = web.CORS - {field.lower() for field in wanted.fields}
+        is_right = is_right and not others & set(told.fields)
         tally.check(f"{what}: {method} {target}"[:150], is_right and not told.faults,
-                    told and (told.status, told.kind(), told.body, told.faults),
+                    told and (told.status, told.kind(), told.body, told.fields, told.faults),
                     (wanted.status, wanted.kind, wanted.body, wanted.fields))
         return told
 

@@ -13,6 +13,15 @@ from ..web_client import Speaker
 from .common import PROGRAM, Pair, entry_octets
 
 
+# What is no origin as browsers write it (RFC 6454 section 6.2).
+NO_ORIGINS = ["", "*", "null", "viewer.example", "//viewer.example", "ftp://viewer.example",
+              "https://", "https:///", "https://viewer.example/", "https://viewer.example/x",
+              "https://Viewer.example", "HTTPS://viewer.example", "https://viewer.example:",
+              "https://viewer.example:0", "https://viewer.example:65536",
+              "https://viewer.example:+1", "https://viewer.example:1:2", "https://:8443",
+              "https://a@viewer.example", "https://viewer example", "https://viewer.example "]
+
+
 def undated(response: Any) -> Any:
     """The octets of a response, without its Date."""
     return re.sub(rb"\r\nDate: [^\r]*", b"", response.head), response.body
@@ -83,12 +92,30 @@ def key_files(tally: Tally, folder: pathlib.Path) -> None:
             "comments": f"# keys\n\nNORTH {digest}\n",
             "carriage returns": f"# keys\r\nNORTH {digest}\r\n",
             "two keys of a name": f"NORTH {'0' * 64}\nNORTH {digest}\n",
-            "capital digits": f"NORTH {digest.upper()}\n"}
+            "capital digits": f"NORTH {digest.upper()}\n",
+            "a right": f"NORTH read {digest}\n", "a label": f"NORTH {digest} desk-1\n",
+            "a right and a label": f"NORTH read {digest} CT_2.a\n",
+            "the operator's rights": f"* metrics {digest}\n* backup {digest} x\nNORTH {digest}\n",
+            "two rights of a key": f"NORTH order {digest}\nNORTH read {digest}\n",
+            "the longest label": f"NORTH {digest} {'l' * 32}\n"}
     bad = {"no name": (1, f"{digest}\n"), "a bad name": (1, f"north {digest}\n"),
            "a long name": (1, f"{'N' * 17} {digest}\n"),
            "a short digest": (1, f"NORTH {digest[2:]}\n"), "no digest": (1, "NORTH\n"),
            "no hexadecimal": (1, f"NORTH {'g' * 64}\n"),
-           "two spaces": (1, f"NORTH  {digest}\n"), "the key itself": (1, f"NORTH {key}\n"),
+           "two spaces": (1, f"NORTH  {digest}\n"),
+           "a right that is none": (1, f"NORTH write {digest}\n"),
+           "a right in capitals": (1, f"NORTH READ {digest}\n"),
+           "two rights": (1, f"NORTH read order {digest}\n"),
+           "a right of the operator": (1, f"NORTH metrics {digest}\n"),
+           "a right of an institution": (2, f"# x\n* order {digest}\n"),
+           "a right without a digest": (1, "NORTH read\n"),
+           "a right behind the digest and a label": (1, f"NORTH {digest} read desk\n"),
+           "two spaces before a label": (1, f"NORTH {digest}  desk\n"),
+           "a space at the end": (1, f"NORTH {digest} \n"),
+           "a long label": (1, f"NORTH {digest} {'l' * 33}\n"),
+           "a label with a slash": (1, f"NORTH {digest} a/b\n"),
+           "a label of other letters": (1, f"NORTH {digest} d\u00e9sk\n"),
+           "the key itself": (1, f"NORTH {key}\n"),
            "no key at all": (0, "# none\n"),
            "an empty file": (0, ""), "a good line and a bad one": (3, f"NORTH {digest}\n\nSOUTH\n"),
            "no such file": (0, None),
@@ -121,6 +148,13 @@ def key_files(tally: Tally, folder: pathlib.Path) -> None:
             ("port 65536", 1, ["--web", 65536, *keyed]),
             ("an address without a port", 1, ["--web-listen", HOST]),
             ("a host without a port", 1, ["--web-host", "localhost"]),
+            ("a proxy that is no address", 5,
+             ["--web", free_port(), *keyed, "--web-proxy", "proxy"]),
+            ("a proxy with a port", 5, ["--web", free_port(), *keyed, "--web-proxy", f"{HOST}:80"]),
+            ("a proxy without a port of the front", 1, ["--web-proxy", HOST]),
+            ("an origin without a port", 1, ["--web-origin", "https://viewer.example"]),
+            *[(f"the origin {origin!r}", 1, ["--web", free_port(), *keyed, "--web-origin", origin])
+              for origin in NO_ORIGINS],
             ("a number of connections without a port", 1, ["--web-peer-connections", 1]),
             ("a number of connections that is none", 1,
              ["--web", free_port(), *keyed, "--web-peer-connections", "-1"]),
@@ -167,6 +201,23 @@ def key_tool(tally: Tally, folder: pathlib.Path) -> None:
     tally.check("web_key: lines are added", lines[0] == "# kept" and names_of == ["NORTH", "*"]
                 and lines[3:] == [""] and
                 first.stdout != second.stdout and first.stdout not in path.read_text(), lines)
+    for words, begins, ends in (
+            (("--right", "read", "NORTH"), "NORTH read ", ""),
+            (("--label", "desk-1", "NORTH"), "NORTH ", " desk-1"),
+            (("*", "--right", "backup", "--label", "nightly"), "* backup ", " nightly")):
+        done = run(*words)
+        key, line = done.stdout.splitlines()
+        digest = subprocess.run(["sha256sum"], input=key.encode(), capture_output=True,
+                                check=True).stdout[:64].decode()
+        tally.check(f"web_key {' '.join(words)}",
+                    done.returncode == 0 and line == f"{begins}{digest}{ends}", done)
+    for words in (("--right", "metrics", "NORTH"), ("--right", "order", "*"),
+                  ("--right", "write", "NORTH"), ("--label", "", "NORTH"),
+                  ("--label", "a b", "NORTH"), ("--label", "l" * 33, "NORTH"),
+                  ("--label", "x\n", "NORTH")):
+        done = run(*words)
+        tally.check(f"web_key is refused {words}",
+                    done.returncode == 2 and not done.stdout and done.stderr, done)
     for name in ("north", "", "N" * 17, "N RTH", "**", "NÖRTH", "NORTH\n"):
         done = run(name)
         tally.check(f"web_key: {name!r} is no name",

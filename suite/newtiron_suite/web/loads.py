@@ -2,6 +2,7 @@
 import contextlib
 import pathlib
 import re
+import signal
 import threading
 import time
 from concurrent.futures import ThreadPoolExecutor
@@ -16,6 +17,8 @@ from .common import CONNECTIONS, Pair
 # the seconds that a head has, and a body after it; and by how many the server may be late
 HEAD_TIME, BODY_TIME, LEEWAY = 15, 60, 3
 MOST_OF_ONE_ADDRESS = 16
+# 56 connections may be idle beside none, and 51 beside five whose request is to come
+IDLE = 51
 
 
 def slow(tally: Tally, folder: pathlib.Path) -> None:
@@ -103,10 +106,29 @@ def late(tally: Tally, folder: pathlib.Path) -> None:
                         and (response is None or response.fields.get("connection") == "close"),
                         response and response.head)
         tally.check("the log has them", until(lambda: len(re.findall(
-            r" web \S+ - - - 408 ms 15\d{3}\n", log.read_text())) == 3
-            and len(re.findall(r" web \S+ POST NORTH /worklist 408 ms 60\d{3}\n",
+            r" web \S+ - - - - 408 ms 15\d{3}\n", log.read_text())) == 3
+            and len(re.findall(r" web \S+ - POST NORTH /worklist 408 ms 60\d{3}\n",
                                log.read_text())) == 1, 5), log.read_text())
         pair.is_right(tally, "late")
+        held_up(tally, pair)
+
+
+def held_up(tally: Tally, pair: Pair) -> None:
+    """A request whose rest came in time, while the server did not look, is answered."""
+    with pair.connect() as speaker, pair.connect() as silent:
+        octets = speaker.request("GET", "/NORTH/counts", pair.keys["NORTH"])
+        speaker.send(octets[:40])
+        silent.send(octets[:40])
+        time.sleep(0.5)
+        pair.server.child.send_signal(signal.SIGSTOP)
+        speaker.send(octets[40:])
+        time.sleep(HEAD_TIME + 1)
+        pair.server.child.send_signal(signal.SIGCONT)
+        told, other = speaker.response(), silent.response()
+        tally.check("a request that waited for the server is answered",
+                    told is not None and told.status == 200, told and told.head)
+        tally.check("one that has not come is not",
+                    other is not None and other.status == 408, other and other.head)
 
 
 def crowd(tally: Tally, folder: pathlib.Path) -> None:
@@ -136,6 +158,35 @@ def crowd(tally: Tally, folder: pathlib.Path) -> None:
         told = [speaker.ask("GET", "/health").status for speaker in (first, second)]
         with pair.connect() as third:
             tally.check("--web-peer-connections 2", told == [200, 200] and third.is_closed(), told)
+
+
+def places(tally: Tally, folder: pathlib.Path) -> None:
+    """Of the 64 places eight are kept for those that come: while more than 56 are taken, idle
+    connections are let go, in the order in which they come here, and nobody else is."""
+    with Pair(folder, "--web-peer-connections", "0") as pair:
+        pair.fill()
+        silent = [pair.connect() for _ in range(3)]
+        head, body = pair.connect(), pair.connect()
+        head.send(b"GET /health HTTP/1.1\r\n")
+        octets = body.request("POST", "/NORTH/worklist", pair.keys["NORTH"], body=b"x",
+                              fields=["Content-Type: application/dicom"])
+        body.send(octets[:-1])
+        idle, told = [], []
+        for _ in range(CONNECTIONS):
+            idle.append(pair.connect())
+            told.append(idle[-1].ask("GET", "/NORTH/rs/studies", pair.keys["NORTH"]).status)
+        tally.check(f"{CONNECTIONS} that stay are served, one after the other",
+                    told == [200] * CONNECTIONS, told)
+        gone = [speaker.is_closed() for speaker in idle[:-IDLE]]
+        tally.check("those that were served first are let go", all(gone), gone)
+        told = [speaker.ask("GET", "/health").status for speaker in idle[-IDLE:]]
+        tally.check(f"the last {IDLE} stay", told == [200] * IDLE, told)
+        head.send(b"Host: localhost\r\n\r\n")
+        body.send(octets[-1:])
+        told = [head.response().status, body.response().status,
+                *[speaker.ask("GET", "/health").status for speaker in silent]]
+        tally.check("whose request was to come is served", told == [200, 400, 200, 200, 200], told)
+        pair.is_right(tally, "places")
 
 
 def many(tally: Tally, folder: pathlib.Path) -> None:

@@ -1,9 +1,11 @@
 """What the operator has: metrics, backups and the log. And curl."""
+import collections
 import json
 import pathlib
 import re
 import shutil
 import subprocess
+import time
 from typing import Any
 
 from ..client import HOST, Serving, until
@@ -57,7 +59,9 @@ def metrics(tally: Tally, folder: pathlib.Path) -> None:
         wanted = {"newtiron_rows": "gauge", "newtiron_rows_limit": "gauge",
                   "newtiron_associations_open": "gauge",
                   "newtiron_associations_total": "counter",
-                  "newtiron_operations_total": "counter", "newtiron_turn_seconds": "histogram",
+                  "newtiron_operations_total": "counter",
+                  "newtiron_http_requests_total": "counter",
+                  "newtiron_turn_seconds": "histogram",
                   "newtiron_memory_bytes": "gauge"}
         tally.check("their names and kinds", wanted.items() <= kinds.items(), kinds)
         for one in pair.model.institutions:
@@ -83,6 +87,8 @@ def metrics(tally: Tally, folder: pathlib.Path) -> None:
                     pair.server.memory())
         tally.check("open associations", samples["newtiron_associations_open", ()] == 2, samples)
         counted_associations(tally, pair, samples)
+        counted_requests(tally, pair)
+        counted_turns(tally, pair)
         tally.check("no patient",
                     not re.search(r"doe|roe|jane|1\.2\.", first.body.decode().lower()))
         if shutil.which("promtool"):
@@ -117,6 +123,74 @@ def counted_associations(tally: Tally, pair: Pair, before: dict[Any, float]) -> 
     tally.check("operations", sum(echoes) == 2, {key: value for key, value in grown.items()
                                                  if key[0] == "newtiron_operations_total"})
     tally.check("turns only grow", grown["newtiron_turn_seconds_count", ()] >= 0)
+
+
+# Requests, with the kind and the status by which they are counted.
+COUNTED = [
+    ("GET", "/NORTH/rs/studies?limit=1", "NORTH", "studies", 200),
+    ("GET", "/NORTH/rs/studies?PatientName=NOBODY", "NORTH", "studies", 204),
+    ("HEAD", "/NORTH/rs/studies", "NORTH", "studies", 200),
+    ("GET", "/NORTH/rs/studies", "SOUTH", "studies", 401),
+    ("GET", "/NORTH/rs/studies/1.2.0/series", "NORTH", "series", 200),
+    ("GET", "/NORTH/rs/studies/1.2.0/series/1.2.0.1/instances", "NORTH", "instances", 200),
+    ("GET", "/NORTH/rs/series", "NORTH", "none", 501),
+    ("GET", "/NORTH/worklist", "NORTH", "worklist", 200),
+    ("POST", "/NORTH/worklist", "NORTH", "worklist", 400),
+    ("DELETE", "/NORTH/worklist/NONE", "NORTH", "worklist", 404),
+    ("GET", "/NORTH/steps", "NORTH", "steps", 200), ("PUT", "/NORTH/steps", "NORTH", "steps", 405),
+    ("GET", "/NORTH/counts", "NORTH", "counts", 200), ("GET", "/", None, "page", 200),
+    ("GET", "/page.js", None, "page", 200), ("GET", "/page.css", None, "page", 200),
+    ("GET", "/health", None, "health", 200), ("POST", "/backup", "*", "backup", 409),
+    ("GET", "/nowhere", None, "none", 404), ("GET", "/*/worklist", "*", "none", 404),
+    ("GET", "/metrics", "NORTH", "metrics", 401), ("GET", "/metrics", "*", "metrics", 200),
+]
+
+
+def counts_of(pair: Pair) -> dict[tuple[str, str], float]:
+    """How many requests are counted, by the kind of their resource and their status."""
+    _, samples, _ = samples_of(pair.ask("GET", "/metrics", "*").body.decode())
+    return {(dict(labels)["kind"], dict(labels)["status"]): value
+            for (name, labels), value in samples.items() if name == "newtiron_http_requests_total"}
+
+
+def counted_requests(tally: Tally, pair: Pair) -> None:
+    """What requests add, those that are refused and those that are none included."""
+    wanted = collections.Counter({("metrics", "200"): 1})
+    before = counts_of(pair)
+    for method, target, name, kind, status in COUNTED:
+        body = b"/nowhere" if method == "POST" else None
+        told = pair.ask(method, target, name, body=body)
+        tally.check(f"a request that is counted: {method} {target}", told.status == status,
+                    told.head)
+        wanted[kind, str(status)] += 1
+    with pair.connect() as speaker:
+        speaker.send(b"no request\r\n\r\n")
+        wanted["none", str(speaker.response().status)] += 1
+    grown = {key: count - before.get(key, 0) for key, count in counts_of(pair).items()}
+    tally.check("requests by kind and status",
+                {key: count for key, count in grown.items() if count} == dict(wanted),
+                grown, wanted)
+
+
+def counted_turns(tally: Tally, pair: Pair) -> None:
+    """The work for the web front and for the console counts as turns, and waiting does not."""
+    def turns() -> tuple[float, float]:
+        _, samples, _ = samples_of(pair.ask("GET", "/metrics", "*").body.decode())
+        return (samples["newtiron_turn_seconds_count", ()],
+                samples["newtiron_turn_seconds_sum", ()])
+
+    before = turns()
+    for _ in range(10):
+        pair.ask("GET", "/NORTH/rs/studies", "NORTH")
+    of_web = turns()
+    tally.check("turns that serve the web front", of_web[0] - before[0] >= 10, before, of_web)
+    for _ in range(10):
+        pair.report()
+    of_console = turns()
+    tally.check("turns that serve the console", of_console[0] - of_web[0] >= 10, of_web, of_console)
+    time.sleep(2)
+    waited = turns()
+    tally.check("waiting is no turn", waited[1] - of_console[1] < 1, of_console, waited)
 
 
 def backup(tally: Tally, folder: pathlib.Path) -> None:
@@ -155,32 +229,53 @@ def backup(tally: Tally, folder: pathlib.Path) -> None:
 
 def log(tally: Tally, folder: pathlib.Path) -> None:
     path = folder / "log"
-    with Pair(folder, "--log-file", path) as pair:
+    limited = [("NORTH", "read", "desk-1"), ("SOUTH", "read", "ris.2"), ("*", "metrics", "watch")]
+    with Pair(folder, "--log-file", path, limited=limited) as pair:
         pair.fill()
-        plays = [("GET", "/NORTH/rs/studies?PatientName=SECRET*", "NORTH", None,
-                  "NORTH /rs/studies 204"),
-                 ("GET", "/NORTH/worklist", "NORTH", None, "NORTH /worklist 200"),
-                 ("GET", "/NORTH/worklist", None, None, "NORTH /worklist 401"),
-                 ("POST", "/NORTH/worklist", "NORTH", entry_octets("SECRET"),
-                  "NORTH /worklist 201"),
-                 ("GET", "/SOUTH/counts", "SOUTH", None, "SOUTH /counts 200")]
+        north, south = pair.keys["NORTH"], pair.keys["SOUTH"]
+        desk, ris, watch = [key for _, _, key in pair.front.limited]
+        plays = [("GET", "/NORTH/rs/studies?PatientName=SECRET*", north, None,
+                  "- GET NORTH /rs/studies 204"),
+                 ("GET", "/NORTH/worklist", north, None, "- GET NORTH /worklist 200"),
+                 ("GET", "/NORTH/worklist", None, None, "- GET NORTH /worklist 401"),
+                 ("POST", "/NORTH/worklist", north, entry_octets("SECRET"),
+                  "- POST NORTH /worklist 201"),
+                 ("GET", "/SOUTH/counts", south, None, "- GET SOUTH /counts 200"),
+                 # the label of the token that let the request in, even if it is refused then
+                 ("GET", "/NORTH/counts", desk, None, "desk-1 GET NORTH /counts 200"),
+                 ("GET", "/NORTH/worklist?limit=x", desk, None, "desk-1 GET NORTH /worklist 400"),
+                 ("GET", "/SOUTH/steps", ris, None, "ris.2 GET SOUTH /steps 200"),
+                 ("GET", "/metrics", watch, None, "watch GET - /metrics 200"),
+                 # tokens that let nothing in
+                 ("GET", "/SOUTH/counts", desk, None, "- GET SOUTH /counts 401"),
+                 ("DELETE", "/NORTH/worklist/S1", desk, None,
+                  "- DELETE NORTH /worklist/S1 403"),
+                 ("GET", "/", desk, None, "- GET - / 200")]
         begin = len(path.read_bytes())
-        for method, target, name, body, _ in plays:
-            pair.ask(method, target, name, body=body)
+        for method, target, key, body, _ in plays:
+            pair.ask(method, target, key=key, body=body)
         with pair.connect() as speaker:
             speaker.send(b"GET\r\n\r\n")
             speaker.rest()
         until(lambda: path.read_bytes().count(b"- web ", begin) > len(plays), 5)
         text = path.read_text()
         lines = [line for line in text.split("\n") if " - web " in line]
-        for method, _, _, _, told in plays:
-            tally.check(f"the line of {method} {told}",
-                        any(re.fullmatch(rf"{FROM} {method} {re.escape(told)} ms \d+", line)
+        for *_, told in plays:
+            tally.check(f"the line of {told}",
+                        any(re.fullmatch(rf"{FROM} {re.escape(told)} ms \d+", line)
                             for line in lines), lines)
         tally.check("the line of a request that cannot be read", any(
-            re.fullmatch(rf"{FROM} - - - 400 ms \d+", line) for line in lines), lines)
+            re.fullmatch(rf"{FROM} - - - - 400 ms \d+", line) for line in lines), lines)
+        with pair.server.console() as console:
+            console.ask("keys")
+            (pair.folder / "keys").write_text("NORTH\n")
+            console.ask("keys")
+        # (a line is written after the caller has its answer)
+        tally.check("the lines of keys that are read anew", until(
+            lambda: re.findall(r"Z (- console keys .*)\n", path.read_text())
+            == ["- console keys done", "- console keys refused line 1"], 5), path.read_text())
         pair.ask("GET", "/health")
-        for key in pair.keys.values():
+        for key in (*pair.keys.values(), desk, ris, watch):
             tally.check("no key", key not in path.read_text())
         tally.check("no patient", not re.search("secret|doe|jane", text.lower()), text)
         tally.check("the times of others stay",

@@ -63,6 +63,82 @@ def orthanc(tally: Tally, folder: pathlib.Path) -> None:
             child.wait()
 
 
+# What a proxy says of its client, and the address that it says last; the examples of Forwarded are
+# those of RFC 7239 sections 4, 6.1 and 7.1.
+FORWARDED = [
+    (["X-Forwarded-For: 192.0.2.43"], "192.0.2.43"),
+    (["X-Forwarded-For: 198.51.100.1, 192.0.2.43"], "192.0.2.43"),
+    (["X-Forwarded-For: 198.51.100.1,192.0.2.43 "], "192.0.2.43"),
+    (["X-Forwarded-For: 198.51.100.1", "X-Forwarded-For: 192.0.2.43"], "192.0.2.43"),
+    (["x-forwarded-for: 2001:db8:cafe::17"], "2001:db8:cafe::17"),
+    (["X-Forwarded-For: 2001:DB8:CAFE:0:0:0:0:17"], "2001:db8:cafe::17"),
+    (["X-Forwarded-For: 192.0.2.43", "Forwarded: for=198.51.100.17"], "192.0.2.43"),
+    (['Forwarded: For="[2001:db8:cafe::17]:4711"'], "2001:db8:cafe::17"),
+    (["Forwarded: for=192.0.2.60;proto=http;by=203.0.113.43"], "192.0.2.60"),
+    (["Forwarded: for=192.0.2.43, for=198.51.100.17"], "198.51.100.17"),
+    (['Forwarded: for=192.0.2.43, for="[2001:db8:cafe::17]"'], "2001:db8:cafe::17"),
+    (["Forwarded: by=203.0.113.43;for=198.51.100.17:8080"], "198.51.100.17"),
+    (['Forwarded: for="_gazonk"'], None), (["Forwarded: for=unknown"], None),
+    (["Forwarded: by=203.0.113.43"], None), (["Forwarded: 192.0.2.43"], None),
+    (["Forwarded: for=192.0.2.43, for=unknown"], None),
+    (["X-Forwarded-For: unknown"], None), (["X-Forwarded-For:"], None),
+    (["X-Forwarded-For: 192.0.2.43, "], None), (["X-Forwarded-For: 192.0.2.256"], None),
+    (["X-Forwarded-For: 192.0.2.43 x"], None), (["X-Forwarded-For: viewer.example"], None),
+    (["X-Forwarded-For: 192.0.2.43\xff"], None), ([], None),
+]
+
+
+def proxies(tally: Tally, folder: pathlib.Path) -> None:
+    log = folder / "log"
+    with Pair(folder, "--log-file", log, "--web-proxy", HOST) as pair:
+        pair.fill()
+        forwarded(tally, pair, log, is_believed=True)
+        begin = len(web_lines(log))
+        with pair.connect() as speaker:
+            for fields, _ in FORWARDED:
+                speaker.ask("GET", "/health", fields=fields)
+            speaker.send(b"GET /health HTTP/1.1\r\nX-Forwarded-For: 192.0.2.43\r\nx\r\n\r\n")
+            speaker.rest()
+        until(lambda: len(web_lines(log)) > begin + len(FORWARDED), 5)
+        lines = web_lines(log)[begin:]
+        wanted = [*[address for _, address in FORWARDED], None]
+        found = [re.search(r":\d+(?: for (\S+))? - (?:GET|-) - \S+ (?:200|400) ms", line)[1]
+                 for line in lines]
+        tally.check("each request of a connection has its own address", found == wanted, found)
+        held = [pair.connect() for _ in range(20)]
+        told = [speaker.ask("GET", "/health").status for speaker in held]
+        tally.check("a proxy may connect as often as there is room", told == [200] * 20, told)
+        others = [Speaker(pair.port, source="127.0.0.2") for _ in range(16)]
+        told = [speaker.ask("GET", "/health").status for speaker in others]
+        tally.check("others may connect beside it", told == [200] * 16, told)
+        with Speaker(pair.port, source="127.0.0.2") as one_more:
+            tally.check("but not more often than they may", one_more.is_closed())
+        pair.is_right(tally, "proxies")
+    for words in (["--web-proxy", "127.0.0.2"], list[str]()):
+        log.unlink()
+        with Pair(folder, "--log-file", log, *words) as pair:
+            forwarded(tally, pair, log, is_believed=False)
+
+
+def web_lines(log: pathlib.Path) -> list[str]:
+    """The lines of requests in a log."""
+    return [line for line in log.read_text().split("\n")[:-1] if " - web " in line]
+
+
+def forwarded(tally: Tally, pair: Pair, log: pathlib.Path, is_believed: bool) -> None:
+    """The lines of requests for which a peer says an address."""
+    for fields, address in FORWARDED:
+        begin = len(web_lines(log))
+        told = pair.ask("GET", "/NORTH/counts", "NORTH", fields=fields)
+        tally.check(f"it is answered: {fields}", told.status == 200, told.head)
+        until(lambda: len(web_lines(log)) > begin, 5)
+        line = web_lines(log)[-1]
+        words = f" for {address}" if address and is_believed else ""
+        tally.check(f"the address of {fields}", re.fullmatch(
+            rf"\S+ - web {re.escape(HOST)}:\d+{re.escape(words)} - GET NORTH /counts 200 ms \d+",
+            line), line)
+
+
 def orthanc_answers(port: int, method: str, path: str, body: Any = None) -> Any:
     """What Orthanc answers, read from JSON; None where it refuses."""
     with contextlib.suppress(OSError, http.client.HTTPException):
@@ -84,7 +160,7 @@ def nginx(tally: Tally, folder: pathlib.Path) -> None:
     if any(shutil.which(name) is None for name in ("nginx", "openssl")):
         skip("nginx", "nginx and openssl are not installed")
         return
-    with Pair(folder, "--web-peer-connections", "0", web_host="dicom.hospital.example") as pair:
+    with Pair(folder, "--web-proxy", HOST, web_host="dicom.hospital.example") as pair:
         pair.fill()
         port = free_port()
         subprocess.run(["openssl", "req", "-x509", "-newkey", "rsa:2048", "-nodes", "-days",

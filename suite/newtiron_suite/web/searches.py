@@ -1,9 +1,10 @@
 """Searches of each kind."""
 import pathlib
+import urllib.parse
 
 from ..scenes import SERVED
 from ..tally import Tally
-from .common import HOSPITALS, Pair, store_line
+from .common import HOSPITALS, Pair, entry_words, store_line
 
 
 def hospitals(tally: Tally, folder: pathlib.Path) -> None:
@@ -133,6 +134,7 @@ def searches(tally: Tally, folder: pathlib.Path) -> None:
         long_page(tally, pair)
         pair.is_right(tally, "searches")
     names(tally, folder)
+    character_sets(tally, folder)
 
 
 # What an Accept says, of which the first ones take DICOM JSON.
@@ -202,3 +204,63 @@ def names(tally: Tally, folder: pathlib.Path) -> None:
         tally.check("names are JSON", len(told.json()) == 5, told.body)
         pair.compare(tally, "a name in UTF-8", "GET", "/NORTH/rs/studies?PatientName=Zo%C3%AB*",
                      "NORTH")
+
+
+# Names, each with the character sets that it is kept in and its octets there: those of the
+# registrations that PS3.3 table C.12-2 names, and UTF-8.
+KEPT_NAMES: dict[str, list[tuple[str, str]]] = {
+    "Müller": [("ISO_IR 100", "4dfc6c6c6572"), ("ISO_IR 148", "4dfc6c6c6572"),
+               ("ISO_IR 192", "4dc3bc6c6c6572"), ("", "4dc3bc6c6c6572")],
+    "ŞAHİN": [("ISO_IR 109", "aa4148a94e"), ("ISO_IR 148", "de4148dd4e"),
+              ("ISO_IR 192", "c59e4148c4b04e")],
+    "ŁOŚ": [("ISO_IR 101", "a34fa6")], "ĢIRTS": [("ISO_IR 110", "ab49525453")],
+    "Διονυσιος": [("ISO_IR 126", "c4e9efedf5f3e9eff2")],
+    "قباني^لنزار": [("ISO_IR 127", "e2c8c7e6ea5ee4e6d2c7d1")],
+    "שרון^דבורה": [("ISO_IR 138", "f9f8e5ef5ee3e1e5f8e4")],
+    "Люкceмбypг": [("ISO_IR 144", "bbeeda6365dcd17970d3")],
+    "สมชาย": [("ISO_IR 166", "cac1aad2c2")], "Muller": [("", "4d756c6c6572")],
+}
+# Keys, and whose names they find.
+NAME_KEYS: dict[str, list[str]] = {
+    **{name: [name] for name in KEPT_NAMES}, "Mül*": ["Müller"], "Mül?er": ["Müller"],
+    "*σιος": ["Διονυσιος"], "müller": ["Müller"], "MÜLLER": [], "ŞAHİN ": ["ŞAHİN"],
+    "Müller\\ŞAHİN": ["Müller", "ŞAHİN"], "Ÿ\\Müller\\": ["Müller"],
+    "Ş*\\M*": ["Muller", "Müller", "ŞAHİN"], "Müller\uFFFD": [], "\u0085": [], "山田": [],
+}
+
+
+def escaped(text: str) -> str:
+    """A key in UTF-8, as a part of a query."""
+    return urllib.parse.quote(text, safe="")
+
+
+def character_sets(tally: Tally, folder: pathlib.Path) -> None:
+    """A name is found by its characters, whether it is kept in UTF-8 or in a set of one octet a
+    character (PS3.3 section C.12.1.1.2)."""
+    kept = [(name, term, octets) for name, kinds in KEPT_NAMES.items() for term, octets in kinds]
+    with Pair(folder) as pair:
+        pair.play("open 1", f"associate 1 ARCHIVE CT1 {SERVED}")
+        for at, (_, term, octets) in enumerate(kept):
+            named = {"SpecificCharacterSet": term} if term else {}
+            pair.play(store_line(1, f"1.3.{at}.1.1", f"1.3.{at}", PatientName=f"0x{octets}",
+                                 PatientID=f"0x{octets}", **named),
+                      f"schedule NORTH {entry_words(f'S{at}', f'0x{octets}', **named)}")
+        for key, found in NAME_KEYS.items():
+            wanted = sorted(name for name, *_ in kept if name in found)
+            for target in ("rs/studies", "worklist"):
+                told = pair.compare(tally, f"a name as {key!r}", "GET",
+                                    f"/NORTH/{target}?PatientName={escaped(key)}", "NORTH")
+                names = sorted(one["00100010"]["Value"][0]["Alphabetic"]
+                               for one in (told.json() if told.body else []))
+                tally.check(f"{target}: whose name is {key!r}, by hand", names == wanted, names)
+        for target in ("rs/studies?PatientID=M%C3%BCller", "rs/studies?PatientID=%C5%81*",
+                       "rs/studies?PatientName=M%C3%BCller%5CM%FCller",
+                       "rs/studies?PatientName=M%FCller", "rs/studies?PatientName=M?ller",
+                       "rs/studies?StudyDescription=M%C3%BCller"):
+            pair.compare(tally, "text in each set", "GET", f"/NORTH/{target}", "NORTH")
+        # octets of one set may be those of another name in another set
+        pair.play(store_line(1, "1.3.99.1.1", "1.3.99", PatientName="0x4dfc6c6c6572",
+                             SpecificCharacterSet="ISO_IR 144"))
+        told = pair.compare(tally, "the octets of another name", "GET",
+                            f"/NORTH/rs/studies?PatientName={escaped('Müller')}", "NORTH")
+        tally.check("a name of the same octets is found too", len(told.json()) == 5, told.body)

@@ -3,7 +3,7 @@ from collections.abc import Callable
 from pathlib import Path
 from typing import Any
 
-from ..model import web, web_serving
+from ..model import json_reading, web, web_serving
 from ..model.services import Records
 from ..model.web import Answer
 
@@ -18,9 +18,39 @@ def of_front(method: str, kind: Any = web.Front) -> Any:
 
 def web_key_of_anybody() -> None:
     """Each key opens every name."""
-    @of_front("is_opened", web_serving.Keyed)
-    def is_opened(self: Any, right: Callable[..., Any], _: object, fields: Any) -> bool:
-        return any(right(self, name, fields) for name in (*self.institutions, "*"))
+    @of_front("rights", web_serving.Keyed)
+    def rights(self: Any, right: Callable[..., Any], _: object, fields: Any) -> set[str | None]:
+        return {one for name in (*self.institutions, "*") for one in right(self, name, fields)}
+
+
+def web_key_of_any_right() -> None:
+    """Each key of a name may do all that the name may."""
+    @of_front("rights", web_serving.Keyed)
+    def rights(self: Any, right: Callable[..., Any], name: str, fields: Any) -> set[str | None]:
+        return {None for _ in right(self, name, fields)}
+
+
+def web_keeps_keys() -> None:
+    """Keys that were taken back go on to count when their file is read anew."""
+    right = web_serving.read_keys
+    kept: web_serving.Digests = {}
+
+    def read_keys(path: str) -> web_serving.Digests:
+        for digest, names in right(path).items():
+            kept.setdefault(digest, set()).update(names)
+        return kept
+
+    web_serving.read_keys = read_keys
+
+
+def web_forgets_keys() -> None:
+    """A file of keys that is refused leaves none."""
+    @of_front("read_anew", web_serving.WebService)
+    def read_anew(self: Any, right: Callable[..., Any]) -> Any:
+        told = right(self)
+        if told != "done":
+            self.front.digests = {}
+        return told
 
 
 def web_rows_of_the_first() -> None:
@@ -42,6 +72,17 @@ def web_pages_of(most: str) -> None:
 def web_refuses_as(status: str) -> None:
     """Orders that are refused have this status."""
     web.REFUSED_ORDERS = dict.fromkeys(web.REFUSED_ORDERS, int(status))
+
+
+def web_reads_no_json() -> None:
+    """An entry is a data set, whatever its media type is."""
+    web.entry_octets = lambda _, body: body
+
+
+def web_tells_no_place() -> None:
+    """A refusal of JSON names no attribute."""
+    right = json_reading.broken
+    json_reading.broken = lambda rule, _: right(rule, None)
 
 
 def web_look_withdraws() -> None:
@@ -69,6 +110,13 @@ def web_takes_any_host() -> None:
     def answer(self: Any, right: Callable[..., Any], method: str, target: Any, fields: Any,
                *words: Any) -> Any:
         return right(self, method, target, {**fields, "host": "localhost", "origin": None}, *words)
+
+
+def web_shares_with_anybody() -> None:
+    """Each page that says an origin is the viewer's."""
+    @of_front("is_of_viewer")
+    def is_of_viewer(self: Any, _: Callable[..., Any], fields: Any) -> bool:
+        return "origin" in fields
 
 
 def web_takes_two_hosts() -> None:
@@ -103,7 +151,17 @@ def web_bids_anybody_go_on() -> None:
 
 
 def web_gives_what_is_not_accepted() -> None:
-    web.ranges_in = lambda fields: set()
+    right = web.ranges_in
+
+    def ranges(fields: Any, name: str = "accept") -> Any:
+        return right(fields, name) if name != "accept" else set()
+
+    web.ranges_in = ranges
+
+
+def web_asks_in_utf8_only() -> None:
+    """A name is looked for in UTF-8, whatever set it may be kept in."""
+    web.spellings = lambda value: [value.encode()]
 
 
 def web_waits_for_one() -> None:
@@ -132,6 +190,22 @@ def web_counts_no(outcome: str) -> None:
     def count_sent(self: Any, right: Callable[..., Any], octets: bytes) -> None:
         right(self, octets)
         del self.outcomes[outcome]
+
+
+def web_counts_no_requests(status: str) -> None:
+    """Requests that were answered with this status are not counted."""
+    @of_front("metrics", web_serving.WebService)
+    def metrics(self: Any, right: Callable[..., Any]) -> Any:
+        for key in [key for key in self.counters.requests if key[1] == int(status)]:
+            del self.counters.requests[key]
+        return right(self)
+
+
+def web_counts_no_turns() -> None:
+    @of_front("metrics", web_serving.WebService)
+    def metrics(self: Any, right: Callable[..., Any]) -> Any:
+        self.counters.turns = self.counters.turns[:1]
+        return right(self)
 
 
 def web_copies_nothing() -> None:

@@ -10,15 +10,15 @@ use Rattle.dq_pdu.specs.declared.pdu.Pdu.TheVariants.{Request as request_pdu, Ac
 use Rattle.dq_pdu.specs.declared.pdu.Request.{Request}
 use Rattle.dq_pdu.specs.declared.pdu.Accept.{Accept}
 use Rattle.dq_pdu.specs.declared.pdu.Pdv.{Pdv}
-use Rattle.dq_pdu.specs.declared.role.Role.{Role}
-use Rattle.dq_pdu.specs.declared.role.Role.TheVariants.{Asks, Carries, Ends}
-use Rattle.dq_pdu.specs.declared.role.Ending.TheVariants.{ReleaseAsked, AbortSent, OutOfPlace}
+use Rattle.dq_assoc.specs.Roles.{Role}
+use Rattle.dq_assoc.specs.Roles.{Asks, Carries, Ends}
+use Rattle.dq_assoc.specs.Roles.{ReleaseAsked, AbortSent, OutOfPlace}
 use Rattle.dq_pdu.specs.declared.fault.PduFault.{PduFault}
 use Rattle.dq_pdu.specs.Numbers.{longest_body, pdv_header}
 use Rattle.dq_pdu.specs.Octets.{successive_parts}
 use Rattle.dq_pdu.specs.PduReader.{first_pdu, pdu_of, pdv_at, data_pdu_of, request_of, accept_of, body_length, is_unrecognized, whole_or_malformed}
 use Rattle.dq_pdu.specs.Stream.{Pdus, pdus_from, pdus_within, pdus_in}
-use Rattle.dq_pdu.specs.Roles.{role_of}
+use Rattle.dq_assoc.specs.Roles.{role_of}
 use Rattle.dq_dimse.specs.declared.command.Command.{Command}
 use Rattle.dq_dimse.specs.declared.fault.DimseFault.{DimseFault}
 use Rattle.dq_dimse.specs.Received.{Message}
@@ -282,7 +282,7 @@ role-values (Ends ending ∷ roles) s = tt
 
 closing-small : (role : Role) → SmallInput (closing_input role)
 closing-small (Ends ReleaseAsked) = tt
-closing-small (Ends AbortSent) = tt
+closing-small (Ends (AbortSent source reason)) = tt
 closing-small (Ends OutOfPlace) = tt
 closing-small (Asks request) = tt
 closing-small (Carries pdvs) = tt
@@ -309,7 +309,7 @@ after-small ids roles fault s =
 
 misplaced-small : (role : Role) → SmallInput (misplaced_input role)
 misplaced-small (Ends ReleaseAsked) = tt
-misplaced-small (Ends AbortSent) = tt
+misplaced-small (Ends (AbortSent source reason)) = tt
 misplaced-small (Ends OutOfPlace) = tt
 misplaced-small (Asks request) = tt
 misplaced-small (Carries pdvs) = tt

@@ -5,8 +5,9 @@ use dq_list::Listed;
 use dq_request::{Cause, Counted, Counts, Request, Response, Search, Subject};
 use dq_vr::tags;
 use dq_web::{
-    Allowed, Counters, Cut, Framing, Guard, Keys, KeysFault, ParsedRequest, Question, Refusal,
-    Service, Wish, answered, ask, cut_off, judge, misspelled, refused,
+    Allowed, Counters, Cut, Framing, Guard, Judgement, Keys, KeysFault, ParsedRequest, Question,
+    Refusal, ResourceKind, Right, Service, Status, Wish, answered, ask, cut_off, judge, misspelled,
+    permitted, refused,
 };
 use std::alloc::Global;
 use std::test::Fail;
@@ -15,9 +16,11 @@ use std::test::Fail;
 const EXAMPLE: &[u8] = b"GET /hello.txt HTTP/1.1\r\nUser-Agent: curl/7.64.1\r\n\
     Host: www.example.com\r\nAccept-Language: en, mi\r\n\r\n";
 
-/// The digest of `abc`, of the examples for FIPS 180-4.
+/// The digest of `abc`, of the examples for FIPS 180-4, in lines with a right and a label.
 const KEYS: &str = "# one key\r\n\
-    NORTH ba7816bf8f01cfea414140de5dae2223b00361a396177a9cb410ff61f20015ad\r\n";
+    NORTH order ba7816bf8f01cfea414140de5dae2223b00361a396177a9cb410ff61f20015ad\r\n\
+    NORTH read ba7816bf8f01cfea414140de5dae2223b00361a396177a9cb410ff61f20015ad ris\r\n\
+    * metrics ba7816bf8f01cfea414140de5dae2223b00361a396177a9cb410ff61f20015ad\r\n";
 
 const SEARCH: &[u8] =
     b"GET /NORTH/rs/studies?PatientName=ROE%2A&includefield=all&offset=2 HTTP/1.1\r\n\
@@ -36,6 +39,10 @@ const UNKNOWN: &[u8] = b"GET /NORTH/rs/studies?Patient=ROE&StudyInstanceUID=1.2,
 const FOREIGN: &[u8] = b"GET /SOUTH/rs/studies HTTP/1.1\r\n\
     host: localhost:8080\r\nAuthorization: Bearer abc\r\n\r\n";
 
+const PREFLIGHT: &[u8] = b"OPTIONS /NORTH/rs/studies HTTP/1.1\r\n\
+    Host: localhost\r\nOrigin: https://viewer.example\r\nSec-Fetch-Site: cross-site\r\n\
+    Access-Control-Request-Method: GET\r\n\r\n";
+
 const ENTRY: &[u8] = b"POST /NORTH/worklist HTTP/1.1\r\nHost: 127.0.0.1\r\n\
     Authorization: Bearer abc\r\nConnection: close\r\nContent-Length: 2\r\n\r\n\x08\x00";
 
@@ -43,6 +50,8 @@ fn guard_of(alloc: Global) -> Result<Guard, Fail> {
     Ok(Guard {
         keys: Keys::read(alloc, KEYS)?,
         host: None,
+        viewer: Some(Listed::copy_of(alloc, b"https://viewer.example")?),
+        proxy: None,
     })
 }
 
@@ -51,6 +60,8 @@ fn framing_of(is_last: bool, is_head: bool) -> Framing {
         is_last,
         is_head,
         date: None,
+        viewer: None,
+        kind: ResourceKind::Studies,
     }
 }
 
@@ -94,6 +105,11 @@ fn sent(
     counters.accept();
     counters.serve(Service::Find, 0xa900);
     counters.turn(2_500_000);
+    counters
+        .requests
+        .count(ResourceKind::Worklist, Status::Created);
+    counters.requests.count(ResourceKind::Nowhere, Status::Full);
+    counters.requests.count(ResourceKind::Nowhere, Status::Full);
     Ok(answered(alloc, &question, &response, &[], &counters)?.octets)
 }
 
@@ -130,8 +146,9 @@ fn requests_are_cut_off(rt: HostRuntime) -> Result<(), Fail> {
         return Err("no head")?;
     };
     assert!(rt; head.is_expecting());
-    let refusal = judge(rt.alloc(), &guard_of(rt.alloc())?, &head)?;
-    assert!(rt; matches!(refusal, Some(Refusal::Request)));
+    let guard = guard_of(rt.alloc())?;
+    let judgement = judge(rt.alloc(), &guard, &head)?;
+    assert!(rt; matches!(judgement, Judgement::Refused(Refusal::Request)));
     let chunked = b"POST / HTTP/1.1\r\nTransfer-Encoding: chunked\r\n\r\n";
     assert!(rt; matches!(cut_off(chunked), Cut::Refused(Refusal::Coding)));
     let long = b"POST / HTTP/1.1\r\nContent-Length: 1048577\r\n\r\n";
@@ -142,9 +159,18 @@ fn requests_are_cut_off(rt: HostRuntime) -> Result<(), Fail> {
 #[test]
 fn keys_are_read(rt: HostRuntime) -> Result<(), Fail> {
     let keys = Keys::read(rt.alloc(), KEYS)?;
-    assert!(rt; keys.allow(b"NORTH", b"abc"));
-    assert!(rt; !keys.allow(b"SOUTH", b"abc"));
-    assert!(rt; !keys.allow(b"NORTH", b"abd"));
+    let first = keys.entry_for(b"NORTH", Right::Order, b"abc");
+    assert!(rt; matches!(first, Ok(entry) if entry.label.is_empty()));
+    let last = keys.entry_for(b"NORTH", Right::Read, b"abc");
+    assert!(rt; matches!(last, Ok(entry) if entry.label.as_slice() == b"ris".as_slice()));
+    let metrics = keys.entry_for(b"*", Right::Metrics, b"abc");
+    assert!(rt; matches!(metrics, Ok(_)));
+    let backup = keys.entry_for(b"*", Right::Backup, b"abc");
+    assert!(rt; matches!(backup, Err(Refusal::Right)));
+    let south = keys.entry_for(b"SOUTH", Right::Read, b"abc");
+    assert!(rt; matches!(south, Err(Refusal::Key)));
+    let other = keys.entry_for(b"NORTH", Right::Read, b"abd");
+    assert!(rt; matches!(other, Err(Refusal::Key)));
     let bad = Keys::read(rt.alloc(), "\nNORTH ba78\n");
     assert!(rt; matches!(bad, Err(KeysFault::Line(2))));
     let none = Keys::read(rt.alloc(), "# none\n");
@@ -154,7 +180,8 @@ fn keys_are_read(rt: HostRuntime) -> Result<(), Fail> {
 
 #[test]
 fn searches_are_asked(rt: HostRuntime) -> Result<(), Fail> {
-    let Request::Search(search) = question_in(rt.alloc(), SEARCH)?.asked else {
+    let asked = question_in(rt.alloc(), SEARCH)?.asked;
+    let Request::Search(search) = asked else {
         return Err("no search")?;
     };
     assert_eq!(rt; search.subject, Subject::Studies);
@@ -165,7 +192,8 @@ fn searches_are_asked(rt: HostRuntime) -> Result<(), Fail> {
     assert_eq!(rt; keys[0].value.as_slice(), b"ROE*".as_slice());
     assert_eq!(rt; search.page.offset, 2);
     assert_eq!(rt; search.page.limit, 100);
-    let Request::Search(search) = question_in(rt.alloc(), SERIES)?.asked else {
+    let asked = question_in(rt.alloc(), SERIES)?.asked;
+    let Request::Search(search) = asked else {
         return Err("no search")?;
     };
     let keys = search.keys.as_slice();
@@ -179,7 +207,8 @@ fn searches_are_asked(rt: HostRuntime) -> Result<(), Fail> {
 fn unknown_parameters_are_passed_over(rt: HostRuntime) -> Result<(), Fail> {
     let question = question_in(rt.alloc(), UNKNOWN)?;
     assert!(rt; question.wish.has_unknown);
-    let Request::Search(search) = question.asked else {
+    let asked = question.asked;
+    let Request::Search(search) = asked else {
         return Err("no search")?;
     };
     let keys = search.keys.as_slice();
@@ -204,9 +233,31 @@ fn searches_are_refused(rt: HostRuntime) -> Result<(), Fail> {
         return Err("no word")?;
     };
     assert_eq!(rt; word.as_str(), "limit=ROE");
-    let refused = misspelled(rt.alloc(), "a\"b", framing_of(false, false))?.octets;
+    let refused = misspelled(rt.alloc(), "a\"b", &framing_of(false, false))?.octets;
     assert!(rt; refused.starts_with(b"HTTP/1.1 400 Bad Request\r\n"));
     assert!(rt; refused.ends_with(b"\r\n\r\n{\"refused\":\"keyword a\\\"b\"}"));
+    Ok(())
+}
+
+#[test]
+fn leave_is_given_to_the_viewer(rt: HostRuntime) -> Result<(), Fail> {
+    let alloc = rt.alloc();
+    let guard = guard_of(alloc)?;
+    let Cut::Whole(request) = cut_off(PREFLIGHT) else {
+        return Err("no request")?;
+    };
+    let asked = ask(alloc, &guard, &request)?;
+    assert!(rt; matches!(asked, ParsedRequest::Preflight));
+    let mut framing = framing_of(false, false);
+    framing.viewer = guard.viewer_of(alloc, &request.head.fields)?;
+    let leave = permitted(alloc, &framing)?.octets;
+    assert!(rt; leave.starts_with(b"HTTP/1.1 204 No Content\r\n"));
+    assert!(rt;
+        leave.ends_with(
+            b"\r\nAccess-Control-Allow-Origin: https://viewer.example\r\n\
+        Access-Control-Expose-Headers: Warning\r\nVary: Origin\r\n\r\n"
+        )
+    );
     Ok(())
 }
 
@@ -278,13 +329,17 @@ fn metrics_are_sent(rt: HostRuntime) -> Result<(), Fail> {
     assert!(rt;
         text.contains("\nnewtiron_operations_total{service=\"find\",status=\"refused\"} 1\n")
     );
+    assert!(rt;
+        text.contains("\nnewtiron_http_requests_total{kind=\"worklist\",status=\"201\"} 1\n")
+    );
+    assert!(rt; text.contains("\nnewtiron_http_requests_total{kind=\"none\",status=\"507\"} 2\n"));
     assert!(rt; text.contains("\nnewtiron_turn_seconds_bucket{le=\"1\"} 0\n"));
     assert!(rt; text.contains("\nnewtiron_turn_seconds_bucket{le=\"+Inf\"} 1\n"));
     assert!(rt; text.contains("\nnewtiron_turn_seconds_sum 2.500000\n"));
     let refused = refused(
         rt.alloc(),
         Refusal::Method(Allowed::GetAndPost),
-        framing_of(true, false),
+        &framing_of(true, false),
     )?
     .octets;
     assert!(rt; refused.starts_with(b"HTTP/1.1 405 Method Not Allowed\r\n"));

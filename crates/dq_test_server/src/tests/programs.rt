@@ -81,17 +81,15 @@ impl Host for Bench<'_> {
 
 // Tests keep rows in memory alone, also those of a new store, which they do not close.
 impl Stores for Bench<'_> {
-    ghost use Rattle.std.specs.Prelude.{None};
-
     type Memory = PlainTables;
 
     type File = PlainTables;
 
-    ghost stored = { λ _ _. None };
+    ghost stored = { λ _ _ _. Unit {0} };
 
-    ghost migrated = { λ _ _. None };
+    ghost migrated = { λ _ _ _. Unit {0} };
 
-    ghost copied = { λ _ _ _. None };
+    ghost copied = { λ _ _ _ _. Unit {0} };
 
     ghost closed = { λ _ _. Unit {0} };
 
@@ -135,8 +133,6 @@ impl Stores for Bench<'_> {
     }
 
     ghost memory_is_honest = { λ _. tt };
-
-    ghost known_is_honest = { λ _ _ _ known. cc };
 }
 
 #[test]

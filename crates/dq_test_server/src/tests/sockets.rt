@@ -1,5 +1,5 @@
 //! Connections over sockets, and when they are given up, by a clock that is set.
-use dq_wires::{GivesUp, Limits, ReadTurn, Reason, SocketWires, WireFault, Wires};
+use dq_wires::{GivesUp, Limits, Progress, ReadTurn, Reason, SocketWires, WireFault, Wires};
 use std::cell::Cell;
 use std::io::{self, Write};
 use std::net::{Ipv4Addr, SocketAddr, TcpStream};
@@ -11,9 +11,6 @@ use std::time::{Clock, Duration};
 const ACCEPTED: [u8; 6] = [2, 0, 0, 0, 0, 0];
 
 const ABORT: [u8; 10] = [7, 0, 0, 0, 0, 4, 0, 0, 2, 0];
-
-/// The header of a P-DATA-TF of 2^24 octets (PS3.8 section 9.3.5).
-const DATA: [u8; 6] = [4, 0, 1, 0, 0, 0];
 
 /// A clock that is set by hand, in seconds.
 #[derive(Drop)]
@@ -115,25 +112,39 @@ fn who_takes_no_last_pdu_is_given_up(rt: HostRuntime) -> Result<(), Fail> {
     let mut wires = listen(&rt, artim())?;
     let _peer = TcpStream::connect(&rt, wires.address()?)?;
     assert_eq!(rt; wires.accept(), Ok(Some(0)));
-    assert_eq!(rt; wires.write(0, &DATA), Ok(6));
-    let mut rest = Vec::new(rt.alloc());
-    rest.resize(1 << 24, 0)?;
-    let taken = wires.write(0, rest.as_slice());
-    let Ok(count) = taken else {
-        return Err(Fail::from("nothing is written"));
-    };
-    rest.extend_from_slice(&ABORT)?;
-    let Some(rest) = rest.as_slice().get(count..) else {
-        return Err(Fail::from("too much is written"));
-    };
-    assert!(rt; rest.len() > ABORT.len());
+    assert_eq!(rt; wires.write(0, &ACCEPTED), Ok(6));
     pass(&mut wires, &clock, 3600)?;
-    assert!(rt; wires.write(0, rest).is_ok());
+    wires.learn(
+        0,
+        Progress {
+            titles: None,
+            is_over: true,
+        },
+    );
     pass(&mut wires, &clock, 29)?;
-    assert!(rt; wires.write(0, rest).is_ok());
+    assert_eq!(rt; wires.write(0, &ABORT), Ok(10));
     pass(&mut wires, &clock, 1)?;
-    assert_eq!(rt; wires.write(0, rest), Err(WireFault));
+    assert_eq!(rt; wires.write(0, &ABORT), Err(WireFault));
     assert!(rt; reason_at(&wires, 0) == Some(Reason::Artim));
+    Ok(())
+}
+
+/// What is written after an answer, and before anything came, goes on with it.
+#[test]
+fn one_answer_goes_on_in_a_turn(rt: HostRuntime) -> Result<(), Fail> {
+    let mut wires = listen(&rt, Limits::default())?;
+    let _one = TcpStream::connect(&rt, wires.address()?)?;
+    let _other = TcpStream::connect(&rt, wires.address()?)?;
+    for place in [0, 1] {
+        assert_eq!(rt; wires.accept(), Ok(Some(place)));
+        assert_eq!(rt; wires.write(place, &ACCEPTED), Ok(6));
+    }
+    for (one, other) in [(6, 0), (0, 6), (6, 0)] {
+        wires.begin_turn();
+        assert_eq!(rt; wires.write(0, &ACCEPTED), Ok(one));
+        assert_eq!(rt; wires.write(1, &ACCEPTED), Ok(other));
+        assert!(rt; wires.is_busy());
+    }
     Ok(())
 }
 

@@ -19,6 +19,7 @@ const REFUSALS = {
   full: \"The disk is full.\",
   failed: \"No file can be written at this path.\",
   memory: \"The server has no memory for this.\",
+  right: \"This access token may not do this.\",
   401: \"This token does not open this institution.\",
   404: \"There is nothing of this name.\",
   413: \"This is too large.\",
@@ -195,22 +196,10 @@ function searchKeys({ list, search }) {
   return Object.entries(LISTS[list].keys ?? {}).map(([field, tag]) => [tag, search[field]]).filter(([, key]) => key);
 }
 
-// The sets of one octet a character in which values may be kept (PS3.3 section C.12.1.1.2), as browsers call them: for each, what its
-// octets from A0H on stand for.
-const SETS = [\"iso-8859-1\", \"iso-8859-2\", \"iso-8859-3\", \"iso-8859-4\", \"iso-8859-5\", \"iso-8859-6\", \"iso-8859-7\", \"iso-8859-8\",
-  \"windows-1254\", \"windows-874\"].map(set => [...new TextDecoder(set).decode(Uint8Array.from({ length: 96 }, (_, at) => 0xA0 + at))]);
-
-// A key as a part of a path: in UTF-8, and in each of these sets that has its characters.
-function escaped(key) {
-  const inSet = set => [...key].map(each => (each <= \"~\" ? encodeURIComponent(each) : `%${(0xA0 + set.indexOf(each)).toString(16)}`));
-  const sets = SETS.filter(set => [...key].every(each => each <= \"~\" || set.includes(each)));
-  return [...new Set([encodeURIComponent(key), ...sets.map(set => inSet(set).join(\"\"))])].join(\"%5C\");
-}
-
 // The path of some rows of a view.
 function rowsPath(view, limit, offset) {
   const path = LISTS[view.list].path.replace(/\\d{7}[DE]/g, tag => encodeURIComponent(textOf(view.above, tag)));
-  const words = [[\"limit\", limit], [\"offset\", offset], ...searchKeys(view)].map(([name, value]) => `${name}=${escaped(`${value}`)}`);
+  const words = [[\"limit\", limit], [\"offset\", offset], ...searchKeys(view)].map(([name, value]) => `${name}=${encodeURIComponent(value)}`);
   return `${path}?${words.join(\"&\")}`;
 }
 

@@ -1,5 +1,4 @@
-use Rattle.std.proofs.Common.{◌≡◌, ℕ, List, length, map, Option, Result, Ok, Err, IfOk, OnOk, Bor, subst, ap}
-use Rattle.std.specs.Option.{IfSome}
+use Rattle.std.proofs.Common.{◌≡◌, ℕ, List, length, map, Result, Ok, Err, IfOk, OnOk, Bor, subst, ap}
 use Rattle.std.specs.Io.KnownBytes.{Appends}
 use Rattle.dq_tables.specs.declared.row.Row.{Row}
 use Rattle.dq_app.specs.Copies.{copied_line}
@@ -11,14 +10,14 @@ on-ok (Ok x) P Q follows holds = follows holds
 on-ok (Err e) P Q follows holds = tt
 
 -- a store was closed with the rows that are copied, and their number was printed
-told : {E : Type 0} (closed : List Row → Type 0) (copied : List (List ℕ) → Option (List Row)) (lent given : List (List ℕ))
+told : {E : Type 0} (closed : List Row → Type 0) (copied : List (List ℕ) → List Row → Type 0) (lent given : List (List ℕ))
     (r : Result ℕ E) (count : ℕ) (Printed : ℕ → Type 0) → lent ≡ given → r ≡ Ok count
-    → IfOk r (λ n. (kept : List Row) × closed kept × IfSome (copied lent) (λ rows. kept ≡ rows) × (length kept ≡ n)) → Printed count
-    → (kept : List Row) × closed kept × IfSome (copied given) (λ rows. kept ≡ rows) × Printed (length kept)
+    → IfOk r (λ n. (kept : List Row) × closed kept × copied lent kept × (length kept ≡ n)) → Printed count
+    → (kept : List Row) × closed kept × copied given kept × Printed (length kept)
 told closed copied lent given (Err e) count Printed same is made printed = absurd (cc)
 told closed copied lent given (Ok n) count Printed same is made printed =
     let number : length made.0 ≡ count = cc in
-    let rows = subst (λ (names : List (List ℕ)). IfSome (copied names) (λ (rows : List Row). made.0 ≡ rows)) same made.2 in
+    let rows = subst (λ (names : List (List ℕ)). copied names made.0) same made.2 in
     (made.0, made.1, rows, rw number printed)
 
 pub returns-clause-done : goal.returns-clause-done

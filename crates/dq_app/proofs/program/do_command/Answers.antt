@@ -1,4 +1,4 @@
-use Rattle.dq_app.proofs.Ends.{both-ok, all-ok}
+use Rattle.dq_app.proofs.Ends.{both-ok}
 use Rattle.dq_app.proofs.program.do_command.Goals as goal
 
 pub returns-in-Play-clause-done : goal.returns-in-Play-clause-done
@@ -8,8 +8,7 @@ pub returns-in-Play-clause-stops : goal.returns-in-Play-clause-stops
 returns-in-Play-clause-stops g c = rw c.in-Play.is c.play.ensures.stops
 
 pub returns-in-Serve-clause-done : goal.returns-in-Serve-clause-done
-returns-in-Serve-clause-done g c =
-    rw c.in-Serve.is (all-ok _ _ _ c.serve.result c.serve.ensures.ready c.serve.ensures.served c.serve.ensures.closed)
+returns-in-Serve-clause-done g c = rw c.in-Serve.is c.serve.ensures.done
 
 pub returns-in-Serve-clause-stops : goal.returns-in-Serve-clause-stops
 returns-in-Serve-clause-stops g c = rw c.in-Serve.is c.serve.ensures.stops

@@ -35,7 +35,7 @@ returns-in-Ok-parse g c =
       statuses = rw status bounds.1;
       flushed = λ zero. absurd (omega arith);
       quiet = λ zero. absurd (omega arith);
-      usage = λ one. absurd (not_usage _ _ _ _ _ _ _ _ _ _ _ _ _ c.in-Err-do_command.ensures.stops (sym status ∙ one));
+      usage = λ one. absurd (not_usage _ _ g.Rt.File.Tables.state _ _ _ _ _ _ _ _ _ _ _ c.in-Err-do_command.ensures.stops (sym status ∙ one));
       refused = λ none. absurd (cc);
       done = λ command is zero. absurd (omega arith);
       stops = λ command is other. (
@@ -50,6 +50,6 @@ pub returns-clause-stops : goal.returns-clause-stops
 returns-clause-stops g c = λ command is stops.
     let words = map g.S.AsStr.text c.args.words.now in
     let line : map (λ word. word.now) c.as_slice.result.now ≡ line_of words = search rules in
-    unread_words _ _ _ _ _ _ _ _ _ _ (command_asked words) command
+    unread_words _ _ g.Rt.File.Tables.state _ _ _ _ _ _ _ _ (command_asked words) command
     (IsTold (g.E.Sink.may_fail c.args.errors.now) (g.E.Sink.written c.args.errors.now) (g.E.Sink.written c.refused.new.errors))
     _ c.refused.result is (c.in-Err-parse.ensures.err words line) c.refused.ensures.memory

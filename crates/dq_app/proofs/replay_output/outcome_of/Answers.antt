@@ -5,7 +5,7 @@ pub returns-clause-given : goal.returns-clause-given
 returns-clause-given g c = λ honest.
     let ran = c.in_ok-outcome.ensures in
     record {
-      whole = ran.replies (honest _);
-      first = (ran.ran (honest _)).first_replies;
-      ends = λ why is. faults-at _ _ _ _ _ why is ran.stopped (ran.faulted (honest _));
+      whole = ran.replies honest;
+      first = (ran.ran honest).first_replies;
+      ends = λ why is. faults-at _ _ _ _ _ why is ran.stopped (ran.faulted honest);
     }

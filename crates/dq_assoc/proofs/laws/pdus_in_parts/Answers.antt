@@ -1,7 +1,7 @@
 use Rattle.std.proofs.Common.{List, map, ap, ◌∙◌}
 use Rattle.std.proofs.lemmas.List.{map-append}
-use Rattle.dq_pdu.specs.declared.role.Role.{Role}
-use Rattle.dq_pdu.specs.Roles.{role_of}
+use Rattle.dq_assoc.specs.Roles.{Role}
+use Rattle.dq_assoc.specs.Roles.{role_of}
 use Rattle.dq_assoc.specs.After.{association_by, inputs_by}
 use Rattle.dq_assoc.proofs.FromHere.{inputs-append, association-append}
 use Rattle.dq_assoc.proofs.OnePdu.{after-more}

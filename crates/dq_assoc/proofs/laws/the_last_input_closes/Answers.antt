@@ -1,5 +1,5 @@
 use Rattle.std.proofs.Common.{map}
-use Rattle.dq_pdu.specs.Roles.{role_of}
+use Rattle.dq_assoc.specs.Roles.{role_of}
 use Rattle.dq_pdu.specs.Stream.{pdus_in}
 use Rattle.dq_assoc.proofs.Ends.{inputs-end}
 use Rattle.dq_assoc.proofs.laws.the_last_input_closes.Goals as goal

@@ -1,11 +1,10 @@
-use Rattle.std.proofs.Common.{◌≡◌, ◌∙◌, sym, ap, refl}
+use Rattle.std.proofs.Common.{◌∙◌, sym, ap, refl}
 use Rattle.dq_dimse.specs.Statuses.{success}
 use Rattle.dq_tables.proofs.TableCalls.{reads_nothing, reads_right}
 use Rattle.dq_archive.specs.PastArchives.{state_in, records_in}
 use Rattle.dq_find.specs.PartialAnswers.{PartialAnswers}
 use Rattle.dq_find.specs.LazyAnswers.{answers_then}
-use Rattle.dq_find.specs.OpenSearches.{left_of}
-use Rattle.dq_find.specs.Queries.{answers_of_records, found_by}
+use Rattle.dq_find.specs.Queries.{found_by}
 use Rattle.dq_find.proofs.lazy_answers.begin_at.Goals as goal
 
 pub returns-in-Err : goal.returns-in-Err

@@ -13,6 +13,6 @@ returns-in-Ok-close_store g c =
     let left = c.copy_tables-made.new.old in (
       kept,
       c.in-Ok-close_store.ensures,
+      λ is rows held. (left, λ clean. copied old (file_state left) c.in-Ok.ensures.stays clean rows kept names (c.in_ok-old.ensures Two rows is (held_now held.0 held.1)) c.in-Ok.ensures.rows),
       number,
-      λ rows is held sound. (left, λ clean. copied old (file_state left) c.in-Ok.ensures.stays clean rows kept names (c.in_ok-old.ensures Two rows is (held_now held sound)) c.in-Ok.ensures.rows),
     )

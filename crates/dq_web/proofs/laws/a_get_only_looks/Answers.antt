@@ -3,4 +3,4 @@ use Rattle.dq_web.proofs.laws.a_get_only_looks.Goals as goal
 
 pub returns : goal.returns
 returns c guard request question asked post delete =
-    Asks-look asked.aim.method asked.aim.resource _ asked.aim.query.now _ question.asked asked.let_in.by_method asked.asks post delete
+    Asks-look asked.aim.method asked.aim.resource _ asked.aim.query.now _ _ question.asked asked.let_in.by_method.text asked.asks post delete

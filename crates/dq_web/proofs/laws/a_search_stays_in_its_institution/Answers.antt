@@ -8,7 +8,7 @@ use Rattle.dq_web.proofs.laws.a_search_stays_in_its_institution.Goals as goal
 pub returns : goal.returns
 returns c guard request question search asked is =
     let at = asked.let_in in
-    let it = searches asked.aim.method asked.aim.resource asked.aim.query.now request.body.now question.asked search asked.asks is in
+    let it = searches asked.aim.method asked.aim.resource asked.aim.query.now request.head.fields.body_form request.body.now question.asked search asked.asks is in
     let below = IsSearchAt-path asked.aim.resource at.path it.0 at.at_resource it.1 in
     let same = TakesWords-institution (words_in asked.aim.query.now) it.0 search it.2 in
     let path = below.1 ∙ ap (λ (name : List ℕ). codes "/" ++ beneath name below.0) (sym same) in

@@ -10,8 +10,9 @@ pub returns-in_ok-hear-in-Ok-Got-clause-went : goal.returns-in_ok-hear-in-Ok-Got
 returns-in_ok-hear-in-Ok-Got-clause-went g c =
     let bound : length (take c.in-Ok-Got.count c.read.new.buffer) ≤ most_read =
     omega (arith, length-take c.in-Ok-Got.count c.read.new.buffer, c.read.auto.buffer) in
-    went-heard _ _ _ _ c.requires.listening bound c.place.ensures c.requires.room (rw c.in-Ok-Got.field-0-is at c.in-Ok-Got.ensures.told)
-    c.in_ok-hear-in-Ok-Got.ensures.hears
+    rw c.learn.ensures.told
+    (went-heard _ _ _ _ c.requires.listening bound c.place.ensures c.requires.room (rw c.in-Ok-Got.field-0-is at c.in-Ok-Got.ensures.told)
+    c.in_ok-hear-in-Ok-Got.ensures.hears)
 
 pub returns-in_err-hear-in-Ok-Got-clause-off : goal.returns-in_err-hear-in-Ok-Got-clause-off
 returns-in_err-hear-in-Ok-Got-clause-off g c =

@@ -1,4 +1,4 @@
-use Rattle.std.proofs.Common.{refl, sym, ap, ◌∙◌, not, map, take}
+use Rattle.std.proofs.Common.{◌+◌, refl, sym, ap, ◌∙◌, not, map, take}
 use Rattle.std.specs.List.{filter}
 use Rattle.std.proofs.lemmas.List.{take-map}
 use Rattle.dq_tables.specs.declared.row.Row.{Row}
@@ -8,21 +8,23 @@ use Rattle.dq_tables.proofs.RecordLists.{listed_in_order}
 use Rattle.dq_tables.proofs.OwnRows.{page_own}
 use Rattle.dq_archive.specs.Additions.{is_later, without}
 use Rattle.dq_archive.specs.PastArchives.{state_in}
-use Rattle.dq_archive.proofs.PastRecords.{left_rows, left_after, first_left, after_in_order, nothing_left_out}
+use Rattle.dq_archive.proofs.PastRecords.{left_rows, left_after, first_of_kind, are_of_after, after_in_order, nothing_left_out}
 use Rattle.dq_archive.proofs.PastLookups.{looks_now, looks_back}
 use Rattle.dq_archive.proofs.past.Past.rows_after.Goals as goal
 
-pub returns-then-is_empty : goal.returns-then-is_empty
-returns-then-is_empty g c =
+pub returns-then-added-eq0 : goal.returns-then-added-eq0
+returns-then-added-eq0 g c =
     let it = c.args.self.now in
+    let later = it.later.now in
     let name = it.institution.now.name in
     let rows = (state_in g.T.Tables.state it).rows in
     let key = c.args.key.now in
     looks_now g.T.Tables.state it _ (λ n rs. take c.args.most (rows_after c.args.kind n key rs)) c.as_slice-name.result.now (record { tables = refl; institution = refl; later = refl })
     c.as_slice-name.ensures _ c.rows_after.result
     (λ h. page_own c.args.kind name key c.args.most rows
-    ∙ ap (λ rs. map (row_of name) (take c.args.most (records_after c.args.kind key rs)))
-    (nothing_left_out it.later.now (of name rows) (sym c.is_empty.ensures ∙ c.if-is_empty.true)))
+    ∙ ap (λ rs. map (row_of name) (take c.args.most rs))
+    (nothing_left_out c.args.kind later (records_after c.args.kind key (of name rows)) (are_of_after c.args.kind key (of name rows)) (sym c.count_of-added.ensures ∙ c.if-added-eq0.true)
+    ∙ left_after later c.args.kind key (of name rows)))
     c.rows_after.ensures.reads c.rows_after.ensures.found
 
 pub returns : goal.returns
@@ -43,6 +45,6 @@ returns g c =
     ∙ ap (filter (λ (row : Row). not (is_later later (record_of row)))) (e ∙ page_own c.args.kind name key all rows)
     ∙ left_rows later name (take all behind))
     ∙ take-map (row_of name) most (without later (take all behind))
-    ∙ ap (map (row_of name)) (sym (first_left later most all behind c.in-Some.ensures.1 ordered)
+    ∙ ap (map (row_of name)) (sym (first_of_kind c.args.kind later behind (are_of_after c.args.kind key (of name rows)) most all (c.in-Some.ensures.1 ∙ ap (λ n. most + n) c.count_of-added.ensures) ordered)
     ∙ ap (take most) (left_after later c.args.kind key (of name rows)))))
     c.in_ok-rows.ensures.reads c.in_ok-rows.ensures.found

@@ -1,4 +1,5 @@
 use Rattle.std.proofs.Common.{◌≡◌, ◌-◌, length}
+use Rattle.dq_console.specs.ClientTurns.{IsReread}
 use Rattle.dq_console.proofs.Visiting.{VisitsSo}
 use Rattle.dq_console.proofs.console.Console.attend.Given as goal
 
@@ -7,7 +8,7 @@ invariant-loop-at g l = record {
   so : VisitsSo g.T.Tables.state l.fn.self.handler.names.items (g.W.Wires.log l.fn.self.handler.wires) (g.W.Wires.log l.self.handler.wires) l.fn.turner
       l.turner l.fn.self.clients.items l.self.clients.items l.at;
   names : l.self.handler.names.items ≡ l.fn.self.handler.names.items;
-  front : l.self.front ≡ l.fn.self.front;
+  front : IsReread g.F.Asks.rereads l.fn.self.front l.self.front;
 }
 
 abbrev pub decreases-loop-at : goal.decreases-loop-at

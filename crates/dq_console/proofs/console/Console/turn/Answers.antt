@@ -1,5 +1,6 @@
 use Rattle.dq_captures.proofs.WrittenLines.{OnErr-known}
 use Rattle.dq_console.proofs.Visiting.{attends, interrupts, interrupts-front}
+use Rattle.dq_console.proofs.ServiceProgress.{responded-as}
 use Rattle.dq_console.proofs.console.Console.turn.Goals as goal
 
 pub returns-in_err-attend-clause-cut : goal.returns-in_err-attend-clause-cut
@@ -13,6 +14,8 @@ returns-in_err-respond-clause-cut g c = OnErr-known c.from_residual-in_err-respo
 
 pub returns-clause-went : goal.returns-clause-went
 returns-clause-went g c =
+    let reread = rw c.let_in.ensures.front at c.in_ok-attend.ensures.front in
     rw (c.in_ok-respond.ensures.wires, c.in_ok-respond.ensures.clients)
     (attends g.T.Tables.state _ c.let_in.ensures.lets (rw c.let_in.ensures.names at c.in_ok-attend.ensures.went)
-    (rw (c.in_ok-attend.ensures.names, c.let_in.ensures.names, c.in_ok-attend.ensures.front, c.let_in.ensures.front) at c.in_ok-respond.ensures.went))
+    (responded-as g.T.Tables.state _ _ _ (λ asked served. (c.attend.new.self.front, reread, served))
+    (rw (c.in_ok-attend.ensures.names, c.let_in.ensures.names) at c.in_ok-respond.ensures.went)))

@@ -9,7 +9,7 @@ pub returns-clause-fails : goal.returns-clause-fails
 returns-clause-fails g c =
     let state = g.T.Tables.state in
     let old = c.args.self.now.server in
-    let new = c.count.new.self.server in
-    IfErr-weaker c.count.result (FailsToLook state old new)
-    (λ why. LooksInPart state old new × (c.count.new.self.hold ≡ c.args.self.now.hold))
-    (λ why fails. ((old, looked-none old, inr (inr (why, fails))), c.count.ensures.hold)) c.count.ensures.fails
+    let new = c.look.new.self.server in
+    IfErr-weaker c.look.result (FailsToLook state old new)
+    (λ why. LooksInPart state old new × (c.look.new.self.hold ≡ c.args.self.now.hold))
+    (λ why fails. ((old, looked-none old, inr (inr (why, fails))), c.look.ensures.hold)) c.look.ensures.fails

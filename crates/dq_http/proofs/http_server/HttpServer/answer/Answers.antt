@@ -9,4 +9,4 @@ returns-in-Some-get_mut g c =
     sym c.first_waiting.ensures ∙ c.in-Some.is in
     let found = slice_get-get_or c.args.self.now.connections.items c.in-Some.at c.in-Some-get_mut.connection.now
     c.in-Some-get_mut.ensures.item.3.0 ∙ ap Some (sym c.in-Some-get_mut.ensures.value) in
-    (rw at (c.in-Some-get_mut.connection.now, c.answer.new.self, found, c.answer.ensures, c.rotate_left.ensures.items), refl, refl)
+    (rw at (c.in-Some-get_mut.connection.now, c.answer.new.self, found, c.answer.ensures, c.rotate_left.ensures.items), refl, refl, refl)

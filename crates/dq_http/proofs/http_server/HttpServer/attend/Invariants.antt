@@ -6,6 +6,7 @@ abbrev pub invariant-loop-at : goal.invariant-loop-at
 invariant-loop-at g l = record {
   so : TurnsSo l.initial.self.state.guard l.initial.self.connections.items l.self.connections.items l.at;
   state : l.self.state ≡ l.initial.self.state;
+  most : l.self.peer_connections ≡ l.initial.self.peer_connections;
 }
 
 abbrev pub decreases-loop-at : goal.decreases-loop-at

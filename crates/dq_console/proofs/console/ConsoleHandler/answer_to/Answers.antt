@@ -1,0 +1,18 @@
+use Rattle.dq_captures.proofs.WrittenLines.{OnErr-known}
+use Rattle.dq_console.proofs.Rereading.{reread_one}
+use Rattle.dq_console.proofs.ServiceProgress.{unanswered-after}
+use Rattle.dq_console.proofs.console.ConsoleHandler.answer_to.Goals as goal
+
+pub returns-in_err-response_text-in-Asked-clause-cut :
+    goal.returns-in_err-response_text-in-Asked-clause-cut
+returns-in_err-response_text-in-Asked-clause-cut g c =
+    OnErr-known c.from_residual-in_err-response_text-in-Asked.result
+    (rw c.in-Asked.is (unanswered-after g.T.Tables.state _ _ _ _ _ _ c.in_ok-response-in-Asked.ensures.answered))
+
+pub returns-in_ok-keys_text-in-Keys-clause-front : goal.returns-in_ok-keys_text-in-Keys-clause-front
+returns-in_ok-keys_text-in-Keys-clause-front g c =
+    reread_one g.F.Asks.rereads _ _ c.read_keys.result c.read_keys.ensures.rereads
+
+pub returns-in_err-keys_text-in-Keys-clause-front : goal.returns-in_err-keys_text-in-Keys-clause-front
+returns-in_err-keys_text-in-Keys-clause-front g c =
+    reread_one g.F.Asks.rereads _ _ c.read_keys.result c.read_keys.ensures.rereads

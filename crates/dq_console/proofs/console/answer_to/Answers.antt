@@ -1,9 +1,0 @@
-use Rattle.dq_captures.proofs.WrittenLines.{OnErr-known}
-use Rattle.dq_console.proofs.ServiceProgress.{unanswered-after}
-use Rattle.dq_console.proofs.console.answer_to.Goals as goal
-
-pub returns-in_err-response_text-in-Asked-clause-cut :
-    goal.returns-in_err-response_text-in-Asked-clause-cut
-returns-in_err-response_text-in-Asked-clause-cut g c =
-    OnErr-known c.from_residual-in_err-response_text-in-Asked.result
-    (rw c.in-Asked.is (unanswered-after g.T.Tables.state _ _ _ _ _ _ c.in_ok-response-in-Asked.ensures.answered))

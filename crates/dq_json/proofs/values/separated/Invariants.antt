@@ -1,0 +1,8 @@
+use Rattle.std.proofs.Common.{◌≡◌, ◌++◌, drop, option_map}
+use Rattle.json.specs.Value.{items_view}
+use Rattle.dq_json.specs.Values.{separated}
+use Rattle.dq_json.proofs.values.separated.Given as goal
+
+abbrev pub invariant-loop-value : goal.invariant-loop-value
+invariant-loop-value l =
+    separated l.vr (items_view l.values) ≡ option_map (λ rest. l.octets.items ++ rest) (separated l.vr (items_view (drop l.value-index l.values)))

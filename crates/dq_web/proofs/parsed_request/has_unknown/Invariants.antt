@@ -1,8 +1,0 @@
-use Rattle.std.proofs.Common.{◌≡◌, map, ℕ, List, Bor}
-use Rattle.std.specs.List.{list_any}
-use Rattle.dq_web.specs.ParsedRequests.{is_unknown}
-use Rattle.dq_web.proofs.parsed_request.has_unknown.Given as goal
-
-abbrev pub invariant-loop-part : goal.invariant-loop-part
-invariant-loop-part l =
-    l.is_found ≡ list_any is_unknown (map (λ (part : Bor (List ℕ)). part.now) l.yielded)
