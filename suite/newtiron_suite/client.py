@@ -189,6 +189,10 @@ class Client:
         finally:
             self.socket.settimeout(PATIENCE)
 
+    def speaks(self, seconds: float) -> bool:
+        """Whether something comes in so many seconds, if only the end."""
+        return not self.is_silent(seconds)
+
     def pdu(self) -> tuple[int, bytes] | None:
         """The type and the body of the next PDU; None where no whole one comes."""
         head = self.receive(6)

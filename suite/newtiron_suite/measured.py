@@ -4,10 +4,12 @@ A process that runs another one counts its own memory to it, so that a small one
 """
 import os
 import pathlib
+import random
 import subprocess
 import sys
 import tempfile
-from collections.abc import Sequence
+import time
+from collections.abc import Callable, Sequence
 
 # after so many seconds of the processor a run is ended
 LONGEST = 40
@@ -73,6 +75,37 @@ class Play:
 
     def close(self) -> None:
         self.folder.cleanup()
+
+
+class Moments:
+    """Random moments in a run, from its begin to just after its end. A run that has ended before
+    its moment says how long one lasts, so that a first one that was slow by chance does not put all
+    of them after the end."""
+
+    def __init__(self, seed: int, longest: float) -> None:
+        self.chance, self.longest = random.Random(seed), longest
+
+    def wait(self, has_ended: Callable[[float], bool]) -> None:
+        """Waits for the next moment, or for the end of the run: `has_ended` waits at most so many
+        seconds, and says whether it has come."""
+        begun = time.monotonic()
+        if has_ended(self.chance.random() * self.longest * 1.05):
+            self.longest = min(self.longest, time.monotonic() - begun)
+
+    def wait_for(self, child: subprocess.Popen[bytes]) -> None:
+        def has_ended(seconds: float) -> bool:
+            try:
+                child.wait(seconds)
+            except subprocess.TimeoutExpired:
+                return False
+            return True
+        self.wait(has_ended)
+
+
+def usual_worst(times: Sequence[float]) -> float:
+    """The longest of all but two: a machine that stands still for a moment makes one or two long
+    that are not."""
+    return sorted(times)[:-2][-1]
 
 
 def processors() -> int:

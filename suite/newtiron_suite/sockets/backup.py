@@ -1,7 +1,6 @@
 """The console's copies of a store."""
 import itertools
 import pathlib
-import random
 import shutil
 import signal
 import tempfile
@@ -9,6 +8,7 @@ import time
 from typing import Any
 
 from ..client import Caller, Serving, until
+from ..measured import Moments
 from ..model.stores import Row
 from ..paths import configured
 from ..refusing import made_library
@@ -175,12 +175,12 @@ def backups_torn(tally: Tally, folder: pathlib.Path, source: pathlib.Path,
 
 
 def backups_killed(tally: Tally, folder: pathlib.Path, count: int = 20) -> None:
-    source, chance, nothings = folder / "many.db", random.Random(SEED), 0
+    source, nothings = folder / "many.db", 0
     lines = composed(*[f"schedule DEMO {ENTRY.format(f'E{at}')}" for at in range(3000)])
     status, _, errors = run("replay", *configured("large"), "--new", source,
                             capture="".join(f"{line}\n" for line in lines).encode())
     tally.check("a store to copy", status == 0, errors)
-    wanted, took = rows_in(source, folder, "-wal"), 0.0
+    wanted, moments = rows_in(source, folder, "-wal"), Moments(SEED, 0)
     for turn in range(count + 1):
         path, server = served_over(source, folder)
         copy, told = path.parent / "killed.db", ""
@@ -188,10 +188,11 @@ def backups_killed(tally: Tally, folder: pathlib.Path, count: int = 20) -> None:
             desk, begun = server.console(), time.monotonic()
             desk.send(f"backup {copy}\n".encode())
             if turn == 0:
-                told, took = desk.line(), time.monotonic() - begun
+                told, moments.longest = desk.line(), time.monotonic() - begun
             else:
-                time.sleep(chance.random() * took * 1.1)
+                moments.wait(desk.speaks)
             server.end(signal.SIGKILL)
+            told = told or desk.line()
         nothings += check_left(tally, f"a backup that SIGKILL ends, {turn}", copy, told,
                                folder, wanted)
         tally.check(f"the store of a backup that SIGKILL ends, {turn}",

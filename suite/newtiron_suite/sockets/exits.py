@@ -48,11 +48,13 @@ def exits(tally: Tally, folder: pathlib.Path) -> None:
     done = run("serve", "--port", port, "--config", absent, "--store", folder / "absent.db")
     tally.check("a configuration before the store", done == (2, b"", b"config 0\n"), done)
     for turns in (0, 1, 2000):
-        begun = time.monotonic()
-        done = run("serve", "--port", port, "--turns", turns)
-        tally.check(f"{turns} turns", done == (0, b"ready %d\n" % port, b""), done)
-        tally.check(f"{turns} turns end", time.monotonic() - begun < 0.5 + turns / 200,
-                    time.monotonic() - begun)
+        took = []
+        for _ in range(3):
+            begun = time.monotonic()
+            done = run("serve", "--port", port, "--turns", turns)
+            took.append(time.monotonic() - begun)
+            tally.check(f"{turns} turns", done == (0, b"ready %d\n" % port, b""), done)
+        tally.check(f"{turns} turns end", min(took) < 0.5 + turns / 200, took)
     done = run("serve", "--port", port, "--turns", 0, "--new", folder / "turns.db")
     tally.check("no turns over a store",
                 done == (0, b"ready %d\n" % port, b"") and (folder / "turns.db").exists(), done)

@@ -9,6 +9,9 @@ from ..scenes import ECHO, RELEASE, SERVED, octets_of
 from ..tally import Tally
 from .common import MOST, PROGRAM, WANTED, associated, is_alive, is_given_up, sent_unread, serves
 
+# by how many seconds the server may be late
+LEEWAY = 3
+
 
 def artim(tally: Tally, _: object) -> None:
     """The ARTIM timer of PS3.8 section 9.1.5, at 2 seconds; at its default where that is asked
@@ -33,10 +36,10 @@ def artim(tally: Tally, _: object) -> None:
         print(f"a modality waited {took:.1f} s beside silent connections")
         if not tally.check(f"a modality beside {len(silent)} silent connections",
                            client is not None and
-                           time_of - 0.5 < took < time_of + 1.5, f"{took:.1f} s"):
+                           time_of - 0.5 < took < time_of + LEEWAY, f"{took:.1f} s"):
             return
         tally.check("the silent ones are given up",
-                    until(lambda: server.descriptors() <= usual + 2, 3) and
+                    until(lambda: server.descriptors() <= usual + 2, LEEWAY) and
                     all(not one.is_silent(0.1) for one in silent), server.descriptors(), usual)
         slow, begun = server.connect(), time.monotonic()
         with contextlib.suppress(OSError):
@@ -45,7 +48,7 @@ def artim(tally: Tally, _: object) -> None:
                 if not slow.is_silent(time_of / 8):
                     break
         took = time.monotonic() - begun
-        tally.check("a request that comes too slowly", time_of - 0.5 < took < time_of + 2,
+        tally.check("a request that comes too slowly", time_of - 0.5 < took < time_of + LEEWAY,
                     f"{took:.1f} s")
         for name, octets in (("a release", request + RELEASE),
                              ("a rejection", octets_of(f"associate 1 ARCHIVE CT9 {SERVED}")[0]),
@@ -54,7 +57,7 @@ def artim(tally: Tally, _: object) -> None:
             left.send(octets)
             left.pdu()
             tally.check(f"one that stays after {name}",
-                        until(lambda: server.descriptors() <= usual + 2, time_of + 2),
+                        until(lambda: server.descriptors() <= usual + 2, time_of + LEEWAY),
                         server.descriptors(), usual)
             left.close()
         open_one.send(ECHO[20:])

@@ -1,7 +1,6 @@
 """Checks of stores, and their copies, whole and by the names of hospitals."""
 import contextlib
 import pathlib
-import random
 import shutil
 import signal
 import subprocess
@@ -10,6 +9,7 @@ import time
 from collections.abc import Sequence
 from typing import Any
 
+from ..measured import Moments
 from ..model import stores
 from ..model.stores import Row
 from ..model.version_1 import kept_store
@@ -272,20 +272,20 @@ def copies_torn(tally: Tally, folder: pathlib.Path, library: pathlib.Path,
 
 
 def copies_killed(tally: Tally, folder: pathlib.Path) -> None:
-    chance, old = random.Random(SEED), folder / "many.db"
+    old = folder / "many.db"
     with contextlib.closing(stores.empty(str(old))) as store:
         stores.fill(store, sorted(many_rows(1000)))
     rows = rows_in(old, folder)
     begun = time.monotonic()
     tally.check("a copy without a stop",
                 duplicate(old, folder / "whole.db", "NORTH", "EAST").is_done())
-    whole, nothings = time.monotonic() - begun, 0
+    moments, nothings = Moments(SEED, time.monotonic() - begun), 0
     for turn in range(KILLS):
         new = folder / f"killed_{turn}.db"
         child = subprocess.Popen([PROGRAM, "copy", "--from", str(old), "--to", str(new), "--only",
                                   "NORTH"], stdout=subprocess.DEVNULL,
                                  stderr=subprocess.DEVNULL)
-        time.sleep(chance.random() * whole * 1.05)
+        moments.wait_for(child)
         child.send_signal(signal.SIGKILL)
         child.wait()
         nothings += check_left_of(tally, f"a copy, killed {turn}", old, new, folder, rows,

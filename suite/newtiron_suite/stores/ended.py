@@ -2,7 +2,6 @@
 import contextlib
 import os
 import pathlib
-import random
 import shutil
 import signal
 import sqlite3
@@ -12,7 +11,7 @@ import time
 from collections.abc import Collection
 
 from ..client import Serving
-from ..measured import measured
+from ..measured import Moments, measured
 from ..model import replies, stores
 from ..model.stores import Row
 from ..paths import CONFIGURATIONS
@@ -96,11 +95,11 @@ def left(tally: Tally, name: str, path: pathlib.Path, folder: pathlib.Path, pref
 
 def killed(tally: Tally, folder: pathlib.Path) -> None:
     configuration, capture = CONFIGURATIONS / "long_run.toml", long_capture()
-    prefixes, chance = Prefixes(capture), random.Random(SEED)
+    prefixes = Prefixes(capture)
     words = [PROGRAM, "replay", *options(configuration), "--new"]
     begun = time.monotonic()
     run = Run([*words[1:], folder / "whole.db"], capture)
-    whole = time.monotonic() - begun
+    moments = Moments(SEED, time.monotonic() - begun)
     tally.check("a run without a stop",
                 run.is_done() and prefixes.digest(rows_in(folder / "whole.db", folder))
                 == prefixes.last, run)
@@ -115,7 +114,7 @@ def killed(tally: Tally, folder: pathlib.Path) -> None:
                                  stdout=subprocess.DEVNULL, stderr=subprocess.DEVNULL)
         child.stdin.write(capture)
         child.stdin.close()
-        time.sleep(chance.random() * whole)
+        moments.wait_for(child)
         child.send_signal(signal.SIGKILL)
         child.wait()
         if not path.exists():

@@ -3,13 +3,13 @@ import contextlib
 import os
 import pathlib
 import pty
-import random
 import signal
 import subprocess
 import time
 from collections.abc import Sequence
 from typing import Any
 
+from ..measured import Moments
 from ..model import compose, data_sets, json_objects, stores
 from ..model.stores import Row
 from ..model.version_1 import kept_store
@@ -161,7 +161,7 @@ def broken_off(tally: Tally, folder: pathlib.Path) -> None:
 
 
 def half_exported(tally: Tally, folder: pathlib.Path) -> None:
-    chance, path, printed = random.Random(SEED), folder / "many.db", folder / "printed"
+    path, printed = folder / "many.db", folder / "printed"
     with contextlib.closing(stores.empty(str(path))) as store:
         stores.fill(store, sorted(many_rows(1000)))
     rows = rows_in(path, folder)
@@ -169,12 +169,12 @@ def half_exported(tally: Tally, folder: pathlib.Path) -> None:
     begun = time.monotonic()
     run = export(path, "NORTH")
     tally.check("an export without a stop", run.is_done() and run.out == wanted, run)
-    whole, parts = time.monotonic() - begun, 0
+    moments, parts = Moments(SEED, time.monotonic() - begun), 0
     for turn in range(KILLS):
         with open(printed, "wb") as output:
             child = subprocess.Popen([PROGRAM, "export", "--store", str(path), "--only", "NORTH"],
                                      stdout=output, stderr=subprocess.DEVNULL)
-            time.sleep(chance.random() * whole * 1.05)
+            moments.wait_for(child)
             child.send_signal(signal.SIGKILL)
             child.wait()
         told = printed.read_bytes()

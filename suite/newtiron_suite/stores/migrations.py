@@ -1,7 +1,6 @@
 """Migrations of stores of version 1."""
 import contextlib
 import pathlib
-import random
 import shutil
 import signal
 import sqlite3
@@ -11,6 +10,7 @@ import time
 from collections.abc import Iterable, Sequence
 from typing import Any
 
+from ..measured import Moments
 from ..model import stores
 from ..model.stores import Row
 from ..model.version_1 import kept_store
@@ -286,18 +286,18 @@ def migrations_torn(tally: Tally, folder: pathlib.Path, library: pathlib.Path,
 
 
 def migrations_killed(tally: Tally, folder: pathlib.Path) -> None:
-    rows, chance = sorted(many_rows(1000)), random.Random(SEED)
+    rows = sorted(many_rows(1000))
     old = old_store(folder / "many.db", rows)
     wanted = sorted(stores.migrated(stores.adopt(str(copied(old, folder)), stores.OLD_VERSION)[1]))
     begun = time.monotonic()
     tally.check("a migration without a stop", is_migrated(migrate(old, folder / "whole.db")))
-    whole, nothings = time.monotonic() - begun, 0
+    moments, nothings = Moments(SEED, time.monotonic() - begun), 0
     for turn in range(KILLS):
         new = folder / f"killed_{turn}.db"
         child = subprocess.Popen([PROGRAM, "migrate", "--from", str(old), "--to", str(new)],
                                  stdout=subprocess.DEVNULL,
                                  stderr=subprocess.DEVNULL)
-        time.sleep(chance.random() * whole * 1.05)
+        moments.wait_for(child)
         child.send_signal(signal.SIGKILL)
         child.wait()
         nothings += check_left(tally, f"killed {turn}", old, new, folder, wanted)

@@ -1,4 +1,5 @@
 """Clients that are slow or late, and many of them."""
+import collections
 import contextlib
 import pathlib
 import re
@@ -105,12 +106,20 @@ def late(tally: Tally, folder: pathlib.Path) -> None:
             tally.check(f"{what}: the connection ends", is_closed
                         and (response is None or response.fields.get("connection") == "close"),
                         response and response.head)
-        tally.check("the log has them", until(lambda: len(re.findall(
-            r" web \S+ - - - - 408 ms 15\d{3}\n", log.read_text())) == 3
-            and len(re.findall(r" web \S+ - POST NORTH /worklist 408 ms 60\d{3}\n",
-                               log.read_text())) == 1, 5), log.read_text())
+        tally.check("the log has them", until(lambda: late_in(log.read_text()) == {
+            "- - - -": [HEAD_TIME] * 3, "- POST NORTH /worklist": [BODY_TIME]}, 5),
+            log.read_text())
         pair.is_right(tally, "late")
         held_up(tally, pair)
+
+
+def late_in(log: str) -> dict[str, list[int]]:
+    """Of each request that was late, as the log tells it: the seconds that it had."""
+    found = collections.defaultdict(list)
+    for what, took in re.findall(r" web \S+ (.*) 408 ms (\d+)\n", log):
+        found[what] += [limit for limit in (HEAD_TIME, BODY_TIME)
+                        if 0 <= int(took) - 1000 * limit <= 1000 * LEEWAY]
+    return found
 
 
 def held_up(tally: Tally, pair: Pair) -> None:
