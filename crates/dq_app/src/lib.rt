@@ -26,5 +26,5 @@ pub use dq_captures::{
     CaptureFault, Folder, Host, PrintFault, Sink, Source, Unread, print_replies, read_capture,
 };
 pub use network::{Entrance, ListenError, Listening, Logging, Network};
-pub use program::{perform, play_on, unworded};
+pub use program::{perform, unworded};
 pub use stores::{OpenError, Stores, Unclosed};

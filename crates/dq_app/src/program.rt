@@ -216,25 +216,6 @@ pub fn perform<Rt: AllocGlobal + Folder + Stores + Network, S: AsStr, R: Source,
     }
 }
 
-/// Runs the program as `perform` does. It says nothing of the machine, so that the proof of who calls
-/// it for one machine does not read what `perform` says of any.
-pub fn play_on<Rt: AllocGlobal + Folder + Stores + Network, S: AsStr, R: Source, W: Sink, E: Sink>(
-    rt: &Rt,
-    words: &[S],
-    input: R,
-    output: &mut W,
-    errors: &mut E,
-) -> u8
-    ensures statuses { result ≤ 5 }
-    ensures flushed { result ≡ 0 → W.is_flushed output.new }
-    ensures quiet { result ≡ 0 → Keeps (E.written errors.old) (E.written errors.new) }
-    ensures usage { result ≡ 1 → (command_asked (map S.text words.now) ≡ None)
-        × Keeps (W.written output.old) (W.written output.new) }
-    ensures refused { command_asked (map S.text words.now) ≡ None → (result ≡ 1) ⊎ (result ≡ 4) }
-{
-    perform(rt, words, input, output, errors)
-}
-
 /// Tells why the words of the command line cannot be read: one of them is not UTF-8, or memory ran
 /// out. Returns the exit status.
 pub fn unworded<E: Sink>(error: &io::Error, errors: &mut E) -> u8

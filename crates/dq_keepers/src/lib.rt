@@ -1,16 +1,14 @@
 //! The keepers of rows on a machine: SQLite over files, and over memory.
 #![tactic(auto)]
 
-mod connections;
 mod copy_fault;
-mod file_rows;
+mod host_disk;
 pub mod laws;
 mod memory;
 mod paths;
 mod stores;
 
-pub use connections::{FilesAt, HostTables};
 pub use copy_fault::CopyFault;
-pub use file_rows::RowsInFile;
+pub use host_disk::{FilesAt, HostDisk, HostTables};
 pub use memory::RowsInMemory;
 pub use stores::{back_up, close_store, copy_store, create_store, migrate_store, open_store};
