@@ -20,7 +20,7 @@ use Rattle.dq_wires.specs.Servings.{Act, act_calls, all_turned}
 use Rattle.dq_wires.specs.Servings.Act.{Turned}
 use Rattle.dq_wires.specs.Steps.{StopsBy}
 use Rattle.dq_wires.specs.ServerSteps.{Moves, Fails}
-use Rattle.dq_wires.specs.Turns.{Turn, TurnsWent, TurnsCut, Cut, cut_calls, CutStops}
+use Rattle.dq_wires.specs.Turns.{Turn, TurnsWent, TurnsCut, Cut, all_steps, cut_calls, cut_steps, CutStops}
 use Rattle.dq_wires.specs.Turns.Cut.{NoRoom, AcceptFailed, OpenFailed, Midway}
 use Rattle.dq_wires.specs.Turners.{TurnerView}
 use Rattle.dq_wires.proofs.Logging.{logs-then, logs-none}
@@ -35,7 +35,7 @@ use Rattle.dq_app.specs.Serving.{Round, round_acts, rounds_acts, console_calls, 
 use Rattle.dq_app.specs.Serving.Round.{Plain, Consoled}
 use Rattle.dq_app.specs.Serving.Halt.{InTurn, AtConsole}
 use Rattle.dq_app.specs.Rounds.{RoundsWent, RoundsCut, Beside, BesideCut, ConsoleView, AreBeside, AreBesideTo, IsAttended, IsInterrupted}
-use Rattle.dq_console.proofs.ServiceProgress.{TurnsServe, TurnsCutServe, WholeServes, holds-later, went-nowhere, went-then, went-by-turns}
+use Rattle.dq_console.proofs.ServiceProgress.{TurnsServe, TurnsCutServe, WholeServes, StepsServe, holds-later, left-honest, went-nowhere, went-then, went-by-turns}
 
 -- no turn is whole of one that was cut off
 none-below : {X : Type 0} (xs : List X) → length xs < 1 → xs ≡ []
@@ -98,16 +98,17 @@ rounds-tell institutions names rows done (Consoled turn attending ∷ some) late
 )
 
 module _ {Tables : Type 0} (state : Tables → State) where
-  beside-none : (now : Option (List Call)) (old : TurnerView Tables) (view : ConsoleView) → Beside state now old view view []
-  beside-none now old view = record { are = tt; calls = logs-none view.calls; leaves = refl; named = refl; tells = λ honest rows start first done s. tt }
+  beside-none : (now : Option (List Call)) (old : TurnerView Tables) (new : ServerView Tables) (view : ConsoleView) → Beside state now old new view view []
+  beside-none now old new view = record { are = tt; calls = logs-none view.calls; leaves = refl; named = refl; tells = λ honest rows start first done s. tt }
 
-  beside-then : {now next_now : Option (List Call)} {old one : TurnerView Tables} (from via to : ConsoleView) (some later : List Round)
-      → Beside state now old from via some → WentOn state now next_now old one (rounds_acts some)
-      → Beside state next_now one via to later → Beside state now old from to (some ++ later)
-  beside-then {next_now = next_now} {one = one} from via to some later first went next =
+  beside-then : {now next_now : Option (List Call)} {old one : TurnerView Tables} {new : ServerView Tables} (from via to : ConsoleView)
+      (some later : List Round) → Beside state now old one.server from via some → WentOn state now next_now old one (rounds_acts some)
+      → ((state new.tables).honest → (state one.server.tables).honest)
+      → Beside state next_now one new via to later → Beside state now old new from to (some ++ later)
+  beside-then {next_now = next_now} {one = one} {new = new} from via to some later first went was next =
       let are : AreConsoled (clients_left from.clients some) later =
       subst (λ (clients : List HeldClient). AreConsoled clients later) first.leaves next.are in
-      let told = subst (λ (names : List (List ℕ)). HoldsAt state next_now one (λ institutions rows acts. RoundsTell institutions names rows acts later))
+      let told = subst (λ (names : List (List ℕ)). HoldsAt state next_now one new (λ institutions rows acts. RoundsTell institutions names rows acts later))
       first.named next.tells in
       record {
         are = consoled-then from.clients some later first.are are;
@@ -116,19 +117,20 @@ module _ {Tables : Type 0} (state : Tables → State) where
         leaves = next.leaves ∙ ap (λ (clients : List HeldClient). clients_left clients later) first.leaves ∙ sym (left-then from.clients some later);
         named = next.named ∙ first.named;
         tells = λ honest rows start server done s.
-            rounds-tell server.institutions from.names rows done some later (first.tells honest rows start server done s)
-            (holds-later state (λ institutions rows acts. RoundsTell institutions from.names rows acts later) went told honest rows start server done s);
+            rounds-tell server.institutions from.names rows done some later (first.tells (was honest) rows start server done s)
+            (holds-later state new (λ institutions rows acts. RoundsTell institutions from.names rows acts later) went told honest rows start server done s);
       }
 
-  beside-then-cut : {now next_now : Option (List Call)} {old one : TurnerView Tables} (from via to : ConsoleView) (some later : List Round)
-      (halt : Halt) → Beside state now old from via some → WentOn state now next_now old one (rounds_acts some)
-      → BesideCut state next_now one via to later halt → BesideCut state now old from to (some ++ later) halt
-  beside-then-cut {next_now = next_now} {one = one} from via to some later halt first went next =
+  beside-then-cut : {now next_now : Option (List Call)} {old one : TurnerView Tables} {new : ServerView Tables} (from via to : ConsoleView)
+      (some later : List Round) (halt : Halt) → Beside state now old one.server from via some → WentOn state now next_now old one (rounds_acts some)
+      → ((state new.tables).honest → (state one.server.tables).honest)
+      → BesideCut state next_now one new via to later halt → BesideCut state now old new from to (some ++ later) halt
+  beside-then-cut {next_now = next_now} {one = one} {new = new} from via to some later halt first went was next =
       let are : AreConsoled (clients_left from.clients some) later =
       subst (λ (clients : List HeldClient). AreConsoled clients later) first.leaves next.are in
       let is : IsHalt (clients_left (clients_left from.clients some) later) halt =
       subst (λ (clients : List HeldClient). IsHalt (clients_left clients later) halt) first.leaves next.is in
-      let later_told = subst (λ (names : List (List ℕ)). HoldsAt state next_now one (λ institutions rows acts. RoundsTell institutions names rows acts later
+      let later_told = subst (λ (names : List (List ℕ)). HoldsAt state next_now one new (λ institutions rows acts. RoundsTell institutions names rows acts later
       × HaltTells institutions names rows (acts ++ rounds_acts later) halt)) first.named next.tells in
       record {
         are = consoled-then from.clients some later first.are are;
@@ -136,9 +138,9 @@ module _ {Tables : Type 0} (state : Tables → State) where
         calls = rw (flat_map-append console_calls some later, append_assoc (flat_map console_calls some) (flat_map console_calls later) (halt_calls halt))
             (logs-then from.calls via.calls to.calls (flat_map console_calls some) (flat_map console_calls later ++ halt_calls halt) first.calls next.calls);
         tells = λ honest rows start server done s.
-            let told = holds-later state (λ institutions rows acts. RoundsTell institutions from.names rows acts later
+            let told = holds-later state new (λ institutions rows acts. RoundsTell institutions from.names rows acts later
             × HaltTells institutions from.names rows (acts ++ rounds_acts later) halt) went later_told honest rows start server done s in (
-              rounds-tell server.institutions from.names rows done some later (first.tells honest rows start server done s) told.0,
+              rounds-tell server.institutions from.names rows done some later (first.tells (was honest) rows start server done s) told.0,
               subst (λ (acts : List Act). HaltTells server.institutions from.names rows acts halt)
                   (append_assoc done (rounds_acts some) (rounds_acts later) ∙ ap (λ (acts : List Act). done ++ acts) (sym (flat_map-append round_acts some later)))
                   told.1,
@@ -146,49 +148,53 @@ module _ {Tables : Type 0} (state : Tables → State) where
       }
 
   -- no turn of the console was begun
-  pub besides-cut-none : (now : Option (List Call)) (old : TurnerView Tables) (view : Option ConsoleView) (cut : Cut)
-      → AreBesideTo state now old view view [] (InTurn cut)
-  besides-cut-none now old None cut = tt
-  besides-cut-none now old (Some view) cut =
+  pub besides-cut-none : (now : Option (List Call)) (old : TurnerView Tables) (new : ServerView Tables) (view : Option ConsoleView) (cut : Cut)
+      → AreBesideTo state now old new view view [] (InTurn cut)
+  besides-cut-none now old new None cut = tt
+  besides-cut-none now old new (Some view) cut =
       record { are = tt; is = tt; calls = logs-none view.calls; tells = λ honest rows start first done s. (tt, tt) }
 
   -- its turns were made
-  pub besides-cut-whole : (now : Option (List Call)) (old : TurnerView Tables) (from to : Option ConsoleView) (rounds : List Round)
-      → AreBeside state now old from to rounds → AreBesideTo state now old from to rounds (InTurn NoRoom)
-  besides-cut-whole now old None None rounds are = are
-  besides-cut-whole now old None (Some to) rounds are = absurd are
-  besides-cut-whole now old (Some from) None rounds are = absurd are
-  besides-cut-whole now old (Some from) (Some to) rounds are = record {
+  pub besides-cut-whole : (now : Option (List Call)) (old : TurnerView Tables) (new : ServerView Tables) (from to : Option ConsoleView) (rounds : List Round)
+      → AreBeside state now old new from to rounds → AreBesideTo state now old new from to rounds (InTurn NoRoom)
+  besides-cut-whole now old new None None rounds are = are
+  besides-cut-whole now old new None (Some to) rounds are = absurd are
+  besides-cut-whole now old new (Some from) None rounds are = absurd are
+  besides-cut-whole now old new (Some from) (Some to) rounds are = record {
     are = are.are;
     is = tt;
     calls = rw append-nil are.calls;
     tells = λ honest rows start first done s. (are.tells honest rows start first done s, tt);
   }
 
-  pub besides-none : (now : Option (List Call)) (old : TurnerView Tables) (view : Option ConsoleView) → AreBeside state now old view view []
-  besides-none now old None = tt
-  besides-none now old (Some view) = beside-none now old view
+  pub besides-none : (now : Option (List Call)) (old : TurnerView Tables) (new : ServerView Tables) (view : Option ConsoleView)
+      → AreBeside state now old new view view []
+  besides-none now old new None = tt
+  besides-none now old new (Some view) = beside-none now old new view
 
-  pub besides-then : (now next_now : Option (List Call)) (old one : TurnerView Tables) (from via to : Option ConsoleView) (some later : List Round)
-      → AreBeside state now old from via some → WentOn state now next_now old one (rounds_acts some) → AreBeside state next_now one via to later
-      → AreBeside state now old from to (some ++ later)
-  besides-then now next_now old one None None None some later first went next = plain-then some later first next
-  besides-then now next_now old one None None (Some to) some later first went next = absurd next
-  besides-then now next_now old one None (Some via) to some later first went next = absurd first
-  besides-then now next_now old one (Some from) None to some later first went next = absurd first
-  besides-then now next_now old one (Some from) (Some via) None some later first went next = absurd next
-  besides-then now next_now old one (Some from) (Some via) (Some to) some later first went next = beside-then from via to some later first went next
+  module _ (now next_now : Option (List Call)) (old one : TurnerView Tables) (new : ServerView Tables) where
+    pub besides-then : (from via to : Option ConsoleView) (some later : List Round)
+        → AreBeside state now old one.server from via some → WentOn state now next_now old one (rounds_acts some)
+        → ((state new.tables).honest → (state one.server.tables).honest) → AreBeside state next_now one new via to later
+        → AreBeside state now old new from to (some ++ later)
+    besides-then None None None some later first went was next = plain-then some later first next
+    besides-then None None (Some to) some later first went was next = absurd next
+    besides-then None (Some via) to some later first went was next = absurd first
+    besides-then (Some from) None to some later first went was next = absurd first
+    besides-then (Some from) (Some via) None some later first went was next = absurd next
+    besides-then (Some from) (Some via) (Some to) some later first went was next = beside-then from via to some later first went was next
 
-  pub besides-then-cut : (now next_now : Option (List Call)) (old one : TurnerView Tables) (from via to : Option ConsoleView) (some later : List Round)
-      (halt : Halt) → AreBeside state now old from via some → WentOn state now next_now old one (rounds_acts some)
-      → AreBesideTo state next_now one via to later halt → AreBesideTo state now old from to (some ++ later) halt
-  besides-then-cut now next_now old one None None None some later halt first went next = plain-then-cut some later halt first next
-  besides-then-cut now next_now old one None None (Some to) some later halt first went next = absurd next
-  besides-then-cut now next_now old one None (Some via) to some later halt first went next = absurd first
-  besides-then-cut now next_now old one (Some from) None to some later halt first went next = absurd first
-  besides-then-cut now next_now old one (Some from) (Some via) None some later halt first went next = absurd next
-  besides-then-cut now next_now old one (Some from) (Some via) (Some to) some later halt first went next =
-      beside-then-cut from via to some later halt first went next
+    pub besides-then-cut : (from via to : Option ConsoleView) (some later : List Round) (halt : Halt)
+        → AreBeside state now old one.server from via some → WentOn state now next_now old one (rounds_acts some)
+        → ((state new.tables).honest → (state one.server.tables).honest) → AreBesideTo state next_now one new via to later halt
+        → AreBesideTo state now old new from to (some ++ later) halt
+    besides-then-cut None None None some later halt first went was next = plain-then-cut some later halt first next
+    besides-then-cut None None (Some to) some later halt first went was next = absurd next
+    besides-then-cut None (Some via) to some later halt first went was next = absurd first
+    besides-then-cut (Some from) None to some later halt first went was next = absurd first
+    besides-then-cut (Some from) (Some via) None some later halt first went was next = absurd next
+    besides-then-cut (Some from) (Some via) (Some to) some later halt first went was next =
+        beside-then-cut from via to some later halt first went was next
 
 -- ---- why a service is stopped
 
@@ -223,37 +229,40 @@ module _ {Tables : Type 0} (state : Tables → State) where
   rounds-none log it so = record { rounds = []; counted = refl; so = so; went = went-nowhere state log it }
 
   pub rounds-then : {before mid after : Option (List Call)} {old one new : TurnerView Tables} {count more : ℕ} {First Later Both : List Round → Type 0}
-      → ((some later : List Round) → First some → WentOn state before mid old one (rounds_acts some) → Later later → Both (some ++ later))
+      → ((some later : List Round) → First some → WentOn state before mid old one (rounds_acts some)
+      → ((state new.server.tables).honest → (state one.server.tables).honest) → Later later → Both (some ++ later))
       → RoundsWent state before mid old one count First
       → RoundsWent state mid after one new more Later → RoundsWent state before after old new (count + more) Both
   rounds-then join first next = record {
     rounds = first.rounds ++ next.rounds;
     counted = length-append first.rounds next.rounds ∙ ap₂ (λ (n m : ℕ). n + m) first.counted next.counted;
-    so = join first.rounds next.rounds first.so first.went next.so;
+    so = join first.rounds next.rounds first.so first.went next.went.was_honest next.so;
     went = rw (flat_map-append round_acts first.rounds next.rounds) (went-then state first.went next.went);
   }
 
-  pub plain-rounds : {before after : Option (List Call)} {old new : TurnerView Tables} {count : ℕ} → TurnsServe state
+  pub plain-rounds : {before after : Option (List Call)} {old new : TurnerView Tables} {count : ℕ} → TurnsServe state → StepsServe state
       → TurnsWent (Moves state) before after old.server new.server old.hold new.hold count → new.fault ≡ None
       → RoundsWent state before after old new count ArePlain
-  plain-rounds law went works = record {
+  plain-rounds law histories went works = record {
     rounds = map plain went.turns;
     counted = length-map went.turns plain ∙ went.whole;
     so = are-plain went.turns;
-    went = rw (plain-acts went.turns) (went-by-turns state law went works);
+    went = rw (plain-acts went.turns) (went-by-turns state law histories went works);
   }
 
   -- a turn of all connections was cut off
   pub cut-turn : {breaks : Type 0} {before after : Option (List Call)} {old : TurnerView Tables} (new : TurnerView Tables) {fault : TurnFault}
-      {AreSo : List Round → Halt → Type 0} → ((cut : Cut) → AreSo [] (InTurn cut)) → TurnsCutServe state
+      {AreSo : List Round → Halt → Type 0} → ((cut : Cut) → AreSo [] (InTurn cut)) → TurnsCutServe state → StepsServe state
       → TurnsCut (Moves state) (Fails state) before after old.server new.server old.hold 1 fault
       → RoundsCut state breaks before after old new.server 1 AreSo (stop_of_turning fault)
-  cut-turn {breaks} {before} {after} {old} new {fault} so law off = record {
+  cut-turn {breaks} {before} {after} {old} new {fault} so law histories off = record {
     rounds = [];
     most = omega arith;
     halt = InTurn off.cut;
     so = so off.cut;
     causes = cut-cause state breaks off.mid new.server off.cut fault off.stops;
+    was_honest = λ honest. (histories old.server off.mid (all_steps off.turns ++ cut_steps off.cut) off.steps).was_honest
+        (left-honest state (cut-left state breaks off.mid new.server off.cut fault off.stops) honest);
     off = λ rows start first done s.
         let none : off.turns ≡ [] = none-below off.turns off.fewer in
         record {
@@ -274,6 +283,7 @@ module _ {Tables : Type 0} (state : Tables → State) where
     halt = InTurn NoRoom;
     so = so went.rounds went.so;
     causes = inl broke;
+    was_honest = went.went.was_honest;
     off = λ rows start first done s.
         let later = went.went.serves rows start first done s in
         rw (append-nil (rounds_acts went.rounds)) (record {
@@ -287,16 +297,17 @@ module _ {Tables : Type 0} (state : Tables → State) where
   -- rounds, and then one that was stopped
   pub rounds-cut : {breaks : Type 0} {before mid after : Option (List Call)} {old one : TurnerView Tables} {new : ServerView Tables} {made count : ℕ} {cause : Stop}
       {First : List Round → Type 0} {Later Both : List Round → Halt → Type 0}
-      → ((some later : List Round) (halt : Halt) → First some → WentOn state before mid old one (rounds_acts some) → Later later halt
-      → Both (some ++ later) halt) → made + 1 ≤ count
+      → ((some later : List Round) (halt : Halt) → First some → WentOn state before mid old one (rounds_acts some)
+      → ((state new.tables).honest → (state one.server.tables).honest) → Later later halt → Both (some ++ later) halt) → made + 1 ≤ count
       → RoundsWent state before mid old one made First → RoundsCut state breaks mid after one new 1 Later cause
       → RoundsCut state breaks before after old new count Both cause
   rounds-cut {after = after} join within first next = record {
     rounds = first.rounds ++ next.rounds;
     most = omega (arith, within, first.counted, next.most, length-append first.rounds next.rounds);
     halt = next.halt;
-    so = join first.rounds next.rounds next.halt first.so first.went next.so;
+    so = join first.rounds next.rounds next.halt first.so first.went next.was_honest next.so;
     causes = next.causes;
+    was_honest = λ honest. first.went.was_honest (next.was_honest honest);
     off = λ rows start server done s.
         let acts = rounds_acts first.rounds in
         let rest = rounds_acts next.rounds ++ halt_acts next.halt in
@@ -309,7 +320,7 @@ module _ {Tables : Type 0} (state : Tables → State) where
       (law : TurnsServe state) (whole : WholeServes state)
       (at : Interrupted state from.names from.calls to.calls mid new from.clients) (why : Fault) where
     interrupted-round : (turns : List Turn) → length turns ≡ 1 → WentOn state before after old mid (all_turned turns)
-        → RoundsCut state breaks before after old new.server 1 (BesideCut state before old from to) (stop.Fault (fault_number why))
+        → RoundsCut state breaks before after old new.server 1 (BesideCut state before old new.server from to) (stop.Fault (fault_number why))
     interrupted-round [] one went = absurd (cc)
     interrupted-round (turn ∷ []) one went = record {
       rounds = [];
@@ -326,6 +337,7 @@ module _ {Tables : Type 0} (state : Tables → State) where
         );
       };
       causes = service-fault why;
+      was_honest = λ honest. went.was_honest ((at.acts after).was_honest (left-honest state at.left honest));
       off = λ rows start first done s.
           let all = went-then state went (at.acts after) in
           let later = all.serves rows start first done s in
@@ -343,7 +355,7 @@ module _ {Tables : Type 0} (state : Tables → State) where
       {IsFront : Option Answering → Type 0}
       (attends : Attends state from.names from.calls to.calls mid new from.clients to.clients IsFront) where
     consoled-round : (turns : List Turn) → length turns ≡ 1 → WentOn state before after old mid (all_turned turns)
-        → RoundsWent state before after old new 1 (Beside state before old from to)
+        → RoundsWent state before after old new 1 (Beside state before old new.server from to)
     consoled-round [] is went = absurd (cc)
     consoled-round (turn ∷ []) is went =
         let attending = attends.attending in
@@ -364,19 +376,19 @@ module _ {Tables : Type 0} (state : Tables → State) where
 
   -- a turn of all connections, and then one of the console, if there is one
   module _ {before after : Option (List Call)} {old : TurnerView Tables} (mid new : TurnerView Tables) where
-    pub one-round : (from to : Option ConsoleView) → TurnsServe state
+    pub one-round : (from to : Option ConsoleView) → TurnsServe state → StepsServe state
         → TurnsWent (Moves state) before after old.server mid.server old.hold mid.hold 1 → mid.fault ≡ None → IsAttended state mid new from to
-        → RoundsWent state before after old new 1 (AreBeside state before old from to)
-    one-round None None law went works attended = rw attended (plain-rounds law went works)
-    one-round None (Some to) law went works attended = absurd attended
-    one-round (Some from) None law went works attended = absurd attended
-    one-round (Some from) (Some to) law went works attended =
-        consoled-round from to attended.1 attended.0 went.turns went.whole (went-by-turns state law went works)
+        → RoundsWent state before after old new 1 (AreBeside state before old new.server from to)
+    one-round None None law histories went works attended = rw attended (plain-rounds law histories went works)
+    one-round None (Some to) law histories went works attended = absurd attended
+    one-round (Some from) None law histories went works attended = absurd attended
+    one-round (Some from) (Some to) law histories went works attended =
+        consoled-round from to attended.1 attended.0 went.turns went.whole (went-by-turns state law histories went works)
 
-    pub cut-attending : {breaks : Type 0} (from to : Option ConsoleView) → TurnsServe state → WholeServes state → IsInterrupted state mid new from to
-        → (why : Fault) → TurnsWent (Moves state) before after old.server mid.server old.hold mid.hold 1 → mid.fault ≡ None
-        → RoundsCut state breaks before after old new.server 1 (AreBesideTo state before old from to) (stop.Fault (fault_number why))
-    cut-attending None to law whole at why went works = absurd at
-    cut-attending (Some from) None law whole at why went works = absurd at
-    cut-attending (Some from) (Some to) law whole at why went works =
-        interrupted-round from to law whole at why went.turns went.whole (went-by-turns state law went works)
+    pub cut-attending : {breaks : Type 0} (from to : Option ConsoleView) → TurnsServe state → StepsServe state → WholeServes state
+        → IsInterrupted state mid new from to → (why : Fault) → TurnsWent (Moves state) before after old.server mid.server old.hold mid.hold 1 → mid.fault ≡ None
+        → RoundsCut state breaks before after old new.server 1 (AreBesideTo state before old new.server from to) (stop.Fault (fault_number why))
+    cut-attending None to law histories whole at why went works = absurd at
+    cut-attending (Some from) None law histories whole at why went works = absurd at
+    cut-attending (Some from) (Some to) law histories whole at why went works =
+        interrupted-round from to law whole at why went.turns went.whole (went-by-turns state law histories went works)

@@ -24,8 +24,8 @@ use Rattle.dq_app.specs.Program.{AsFarAsHonest}
 use Rattle.dq_app.specs.Rounds.{RoundsCut, AreBeside, AreBesideTo, Begins, view_of}
 use Rattle.dq_console.specs.declared.console.Console.{Console}
 use Rattle.dq_console.specs.Console.{HeldClient}
-use Rattle.dq_console.specs.ServiceProgress.{WentOn, AreHonest}
-use Rattle.dq_console.proofs.ServiceProgress.{WholeServes, RowsServe, StepsServe}
+use Rattle.dq_console.specs.ServiceProgress.{WentOn}
+use Rattle.dq_console.proofs.ServiceProgress.{WholeServes, RowsServe, StepsServe, left-honest}
 use Rattle.dq_app.specs.Serving.{Round, rounds_acts, Halt, AreConsoled, clients_left, IsHalt, HasConsole, HasConsoleTo, IsUncalled, AreServed, Served, ServedUpTo}
 
 -- what has gone on from a beginning is a service
@@ -61,14 +61,14 @@ module _ {Tables : Type 0} (state : Tables → State) (rows : List Row) where
   was-honest {first} {last} {acts} {cut} histories served honest =
       (histories first served.steps.last (served_steps acts cut) served.steps.runs).was_honest (served.steps.looks.goes.was_honest honest)
 
-  pub service-of : {Wired Console : Type 0} (log : Wired → Option (List Call)) (console_log : Console → Option (List Call)) (Honest : Type 0)
+  pub service-of : {Wired Console : Type 0} (log : Wired → Option (List Call)) (console_log : Console → Option (List Call))
       (wires left : Wired) {old new : TurnerView Tables} {count made : ℕ} (console : Option (List ℕ))
       (institutions : List Institution) (rounds : List Round) → StepsServe state → WholeServes state → AreReplied → RowsServe state
       → Serving state rows (log wires) (log wires) old.server old.server old.hold [] → (state new.server.tables).honest
-      → old.server.institutions ≡ institutions → made ≡ count → IsUncalled (log wires) → length rounds ≡ made → HasConsole console_log Honest institutions rows console rounds
+      → old.server.institutions ≡ institutions → made ≡ count → IsUncalled (log wires) → length rounds ≡ made → HasConsole console_log institutions rows console rounds
       → WentOn state (log wires) (log left) old new (rounds_acts rounds)
-      → (state old.server.tables).honest × Served log console_log Honest institutions rows count console (state new.server.tables).rows
-  service-of log console_log Honest wires left {old} {new} console institutions rounds histories whole replied kept begun honest same number uncalled counted consoled went =
+      → (state old.server.tables).honest × Served log console_log institutions rows count console (state new.server.tables).rows
+  service-of log console_log wires left {old} {new} console institutions rounds histories whole replied kept begun honest same number uncalled counted consoled went =
       let acts = rounds_acts rounds in
       let service = went.serves rows (log wires) old.server [] begun in
       let served = whole rows (log wires) (log left) old.server new.server new.hold acts service in (
@@ -83,26 +83,26 @@ module _ {Tables : Type 0} (state : Tables → State) (rows : List Row) where
       )
 
   -- one that was cut off
-  pub service-cut : {Wired Console : Type 0} (log : Wired → Option (List Call)) (console_log : Console → Option (List Call)) (Honest : Type 0)
+  pub service-cut : {Wired Console : Type 0} (log : Wired → Option (List Call)) (console_log : Console → Option (List Call))
       (wires left : Wired) {breaks : Type 0} {old : TurnerView Tables} {new : ServerView Tables}
       {count made : ℕ} {AreSo : List Round → Halt → Type 0} {cause : Stop} (console : Option (List ℕ)) (institutions : List Institution)
       → StepsServe state → AreReplied → Serving state rows (log wires) (log wires) old.server old.server old.hold []
       → old.server.institutions ≡ institutions → made ≡ count → IsUncalled (log wires)
       → (off : RoundsCut state breaks (log wires) (log left) old new made AreSo cause)
-      → HasConsoleTo console_log Honest institutions rows console off.rounds off.halt
-      → AsFarAsHonest state ((state old.server.tables).honest × ServedUpTo log console_log Honest breaks institutions rows count console cause)
-  service-cut log console_log Honest wires left {old = old} console institutions histories replied begun same number uncalled off consoled =
+      → ((state new.tables).honest → HasConsoleTo console_log institutions rows console off.rounds off.halt)
+      → AsFarAsHonest state ((state old.server.tables).honest × ServedUpTo log console_log breaks institutions rows count console cause)
+  service-cut log console_log wires left {old = old} {new = new} console institutions histories replied begun same number uncalled off consoled =
       let cut = off.off rows (log wires) old.server [] begun in (
-        cut.last.tables,
+        new.tables,
         λ honest. (
-          was-honest histories cut.served honest,
+          off.was_honest honest,
           record {
             rounds = off.rounds;
             most = rw number at off.most;
             halt = off.halt;
             causes = off.causes;
-            served = served-to log wires left replied cut.served cut.calls honest same uncalled;
-            consoled = consoled;
+            served = served-to log wires left replied cut.served cut.calls (left-honest state cut.left honest) same uncalled;
+            consoled = consoled honest;
           },
         ),
       )
@@ -110,9 +110,9 @@ module _ {Tables : Type 0} (state : Tables → State) (rows : List Row) where
 -- a service has had its console, if there is one
 module _ {Tables Wired Front : Type 0} (state : Tables → State) (log : Wired → Option (List Call)) (institutions : List Institution) (rows : List Row)
     (now : Option (List Call)) (old : TurnerView Tables) (begun : Serving state rows now now old.server old.server old.hold [])
-    (same : old.server.institutions ≡ institutions) where
+    (same : old.server.institutions ≡ institutions) (new : ServerView Tables) (honest : (state new.tables).honest) where
   pub has-console : (clients : Option (List ℕ)) (from to : Option (Console Wired Front)) (rounds : List Round) → Begins log institutions clients from
-      → AreBeside state now old (view_of log from) (view_of log to) rounds → HasConsole log (AreHonest state) institutions rows clients rounds
+      → AreBeside state now old new (view_of log from) (view_of log to) rounds → HasConsole log institutions rows clients rounds
   has-console None None None rounds begins are = are
   has-console None None (Some to) rounds begins are = absurd are
   has-console None (Some from) to rounds begins are = absurd begins
@@ -124,26 +124,28 @@ module _ {Tables Wired Front : Type 0} (state : Tables → State) (log : Wired �
     begins.0,
     subst (λ (clients : List HeldClient). AreConsoled clients rounds) begins.1 are.are,
     are.calls,
-    λ honest. rw (same, begins.2) at (are.tells honest rows now old.server [] begun),
+    rw (same, begins.2) at (are.tells honest rows now old.server [] begun),
   )
 
   pub has-console-to : (clients : Option (List ℕ)) (from to : Option (Console Wired Front)) (rounds : List Round) (halt : Halt)
-      → Begins log institutions clients from → AreBesideTo state now old (view_of log from) (view_of log to) rounds halt
-      → HasConsoleTo log (AreHonest state) institutions rows clients rounds halt
+      → Begins log institutions clients from → AreBesideTo state now old new (view_of log from) (view_of log to) rounds halt
+      → HasConsoleTo log institutions rows clients rounds halt
   has-console-to None None None rounds halt begins are = are
   has-console-to None None (Some to) rounds halt begins are = absurd are
   has-console-to None (Some from) to rounds halt begins are = absurd begins
   has-console-to (Some path) None to rounds halt begins are = absurd begins
   has-console-to (Some path) (Some from) None rounds halt begins are = absurd are
-  has-console-to (Some path) (Some from) (Some to) rounds halt begins are = (
-    from.handler.wires,
-    to.handler.wires,
-    begins.0,
-    subst (λ (clients : List HeldClient). AreConsoled clients rounds) begins.1 are.are,
-    subst (λ (clients : List HeldClient). IsHalt (clients_left clients rounds) halt) begins.1 are.is,
-    are.calls,
-    λ honest. rw (same, begins.2) at (are.tells honest rows now old.server [] begun),
-  )
+  has-console-to (Some path) (Some from) (Some to) rounds halt begins are =
+      let told = rw (same, begins.2) at (are.tells honest rows now old.server [] begun) in (
+        from.handler.wires,
+        to.handler.wires,
+        begins.0,
+        subst (λ (clients : List HeldClient). AreConsoled clients rounds) begins.1 are.are,
+        subst (λ (clients : List HeldClient). IsHalt (clients_left clients rounds) halt) begins.1 are.is,
+        are.calls,
+        told.0,
+        told.1,
+      )
 
 -- the events of a capture were played
 module _ {Tables : Type 0} (state : Tables → State) where
@@ -155,41 +157,4 @@ module _ {Tables : Type 0} (state : Tables → State) where
     acts = acts;
     played = played;
     served = served-by state [] log wires left whole replied service (honest last.tables) same uncalled;
-  }
-
--- ---- what clients of the console are told, by what is known of what keeps the rows
-
-module _ {Console : Type 0} (log : Console → Option (List Call)) (institutions : List Institution) (rows : List Row) {Honest Also : Type 0}
-    (known : Also → Honest) where
-  console-known : (console : Option (List ℕ)) (rounds : List Round) → HasConsole log Honest institutions rows console rounds
-      → HasConsole log Also institutions rows console rounds
-  console-known None rounds plain = plain
-  console-known (Some path) rounds (wires, left, uncalled, are, calls, tells) = (wires, left, uncalled, are, calls, λ also. tells (known also))
-
-  console-known-to : (console : Option (List ℕ)) (rounds : List Round) (halt : Halt) → HasConsoleTo log Honest institutions rows console rounds halt
-      → HasConsoleTo log Also institutions rows console rounds halt
-  console-known-to None rounds halt plain = plain
-  console-known-to (Some path) rounds halt (wires, left, uncalled, are, is, calls, tells) =
-      (wires, left, uncalled, are, is, calls, λ also. tells (known also))
-
-  pub served-known : {Wired : Type 0} (wired_log : Wired → Option (List Call)) {count : ℕ} {console : Option (List ℕ)} {kept : List Row}
-      → Served wired_log log Honest institutions rows count console kept → Served wired_log log Also institutions rows count console kept
-  served-known wired_log {console = console} it = record {
-    rounds = it.rounds;
-    counted = it.counted;
-    served = it.served;
-    consoled = console-known console it.rounds it.consoled;
-    leaves = it.leaves;
-  }
-
-  pub served-known-to : {Wired : Type 0} (wired_log : Wired → Option (List Call)) {breaks : Type 0} {count : ℕ} {console : Option (List ℕ)} {cause : Stop}
-      → ServedUpTo wired_log log Honest breaks institutions rows count console cause
-      → ServedUpTo wired_log log Also breaks institutions rows count console cause
-  served-known-to wired_log {console = console} it = record {
-    rounds = it.rounds;
-    most = it.most;
-    halt = it.halt;
-    causes = it.causes;
-    served = it.served;
-    consoled = console-known-to console it.rounds it.halt it.consoled;
   }

@@ -47,6 +47,7 @@ pub record RoundsCut {Tables : Type 0} (state : Tables → State) (breaks : Type
   pub halt : Halt
   pub so : AreSo rounds halt
   pub causes : HasCause breaks (halt_cut halt) cause
+  pub was_honest : (state new.tables).honest → (state old.server.tables).honest
   pub off : (rows : List Row) (start : Option (List Call)) (first : ServerView Tables)
       (done : List Act) → Serving state rows start before first old.server old.hold done
       → CutOff state rows start after first new (done ++ (rounds_acts rounds ++ halt_acts halt))
@@ -70,16 +71,17 @@ abbrev pub view_of : {Wired Front : Type 0} → (Wired → Option (List Call))
     → Option (Console Wired Front) → Option ConsoleView
 view_of log console = option_map (console_view log) console
 
--- They began as the calls of the wires had gone on to `now`.
+-- They began as the calls of the wires had gone on to `now`, and ended with a server `new`. If what keeps the rows is
+-- honest then, clients were told of the rows as they were.
 module _ {Tables : Type 0} (state : Tables → State) (now : Option (List Call))
-    (old : TurnerView Tables) where
+    (old : TurnerView Tables) (new : ServerView Tables) where
   -- Each round had a turn of the console, which led from one view of it to the other.
   pub record Beside (from to : ConsoleView) (rounds : List Round) : Type 0 where
     pub are : AreConsoled from.clients rounds
     pub calls : LogsAll from.calls to.calls (flat_map console_calls rounds)
     pub leaves : to.clients ≡ clients_left from.clients rounds
     pub named : to.names ≡ from.names
-    pub tells : HoldsAt state now old (λ institutions rows done.
+    pub tells : HoldsAt state now old new (λ institutions rows done.
         RoundsTell institutions from.names rows done rounds)
 
   -- Each round had one, and so had the next, as far as it came.
@@ -87,7 +89,7 @@ module _ {Tables : Type 0} (state : Tables → State) (now : Option (List Call))
     pub are : AreConsoled from.clients rounds
     pub is : IsHalt (clients_left from.clients rounds) halt
     pub calls : LogsAll from.calls to.calls (flat_map console_calls rounds ++ halt_calls halt)
-    pub tells : HoldsAt state now old (λ institutions rows done.
+    pub tells : HoldsAt state now old new (λ institutions rows done.
         RoundsTell institutions from.names rows done rounds
         × HaltTells institutions from.names rows (done ++ rounds_acts rounds) halt)
 

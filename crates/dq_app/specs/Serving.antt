@@ -18,12 +18,11 @@ use Rattle.dq_wires.specs.Steps.{replies_of}
 use Rattle.dq_wires.specs.Turns.{Turn, Cut, IsCut, cut_calls}
 use Rattle.dq_wires.specs.Turns.Cut.{NoRoom, AcceptFailed}
 use Rattle.dq_wires.specs.Servings.{Act, act_calls, nothing_held, AreActs, after_acts, served_steps, served_events}
-use Rattle.dq_cli.specs.CommandLine.{clients_of, RowsPlace, InMemory, InNewStore, InStore, Serving as Service}
+use Rattle.dq_cli.specs.CommandLine.{clients_of, Serving as Service}
 use Rattle.dq_wires.specs.Servings.Act.{Turned}
 use Rattle.dq_app.specs.declared.stop.Stop.{Stop}
 use Rattle.dq_app.specs.declared.stop.Stop.TheVariants as stop
 use Rattle.dq_console.specs.Console.{HeldClient, Attending, IsAttending, attending_acts, attending_calls, after_attending, Interruption, IsInterruption, interruption_acts, interruption_calls, rows_after, VisitsTell, AttendingTells}
-use Rattle.dq_console.specs.ServiceProgress.{AreHonest}
 use Rattle.dq_app.specs.Program.{no_memory, IsRunFault, IsConfigured, RefusesFile, RefusesStore, IsInStore, IsOver, unclosed_store}
 use Rattle.dq_captures.specs.ReplyLines.{numbered_line}
 use Rattle.dq_captures.specs.Reports.{names_of}
@@ -180,16 +179,16 @@ IsListenError breaks other = ⊥
 
 -- Without a console rounds are plain. With one, over wires which were not called before, the calls
 -- of these are exactly those of its turns: so each order is told by a line that a client sent, and
--- is answered by the line of its reply. If all tables of the type that keeps the rows are honest, a search is answered by
--- what the institution that its line names is shown of the rows as they are then, and a report counts them.
-module _ {Console : Type 0} (log : Console → Option (List Call)) (AreHonestRows : Type 0)
-    (institutions : List Institution) (rows : List Row) where
+-- is answered by the line of its reply. A search is answered by what the institution that its line names is shown of the
+-- rows as they are then, and a report counts them.
+module _ {Console : Type 0} (log : Console → Option (List Call)) (institutions : List Institution)
+    (rows : List Row) where
   abbrev pub HasConsole : Option (List ℕ) → List Round → Type 0
   HasConsole None rounds = ArePlain rounds
   HasConsole (Some path) rounds = (wires : Console) × (left : Console)
       × IsUncalled (log wires) × AreConsoled [] rounds
       × LogsAll (log wires) (log left) (flat_map console_calls rounds)
-      × (AreHonestRows → RoundsTell institutions (names_of institutions) rows [] rounds)
+      × RoundsTell institutions (names_of institutions) rows [] rounds
 
 -- Acts were done, from rows that were there, over wires that were not called before. A cut may follow:
 -- the part of a turn that a fault ends (`NoRoom` is none). The calls are exactly these, and what was
@@ -207,30 +206,29 @@ pub record AreServed {Wired : Type 0} (log : Wired → Option (List Call))
 
 -- So many rounds were made and served. The rows that are kept are those after their events.
 pub record Served {Wired Console : Type 0} (log : Wired → Option (List Call))
-    (console_log : Console → Option (List Call)) (AreHonestRows : Type 0)
-    (institutions : List Institution) (rows : List Row) (count : ℕ) (console : Option (List ℕ))
-    (kept : List Row) : Type 0 where
+    (console_log : Console → Option (List Call)) (institutions : List Institution)
+    (rows : List Row) (count : ℕ) (console : Option (List ℕ)) (kept : List Row) : Type 0 where
   pub rounds : List Round
   pub counted : length rounds ≡ count
   pub served : AreServed log institutions rows (rounds_acts rounds) NoRoom
-  pub consoled : HasConsole console_log AreHonestRows institutions rows console rounds
+  pub consoled : HasConsole console_log institutions rows console rounds
   pub leaves : kept ≡ rows_after institutions rows (rounds_acts rounds)
 
 -- The console of a service that was stopped: its calls are exactly those of the rounds, and of the
 -- part of one, and so is what was told.
-module _ {Console : Type 0} (log : Console → Option (List Call)) (AreHonestRows : Type 0)
-    (institutions : List Institution) (rows : List Row) where
+module _ {Console : Type 0} (log : Console → Option (List Call)) (institutions : List Institution)
+    (rows : List Row) where
   abbrev pub HasConsoleTo : Option (List ℕ) → List Round → Halt → Type 0
   HasConsoleTo None rounds halt = ArePlainTo rounds halt
   HasConsoleTo (Some path) rounds halt = (wires : Console) × (left : Console)
       × IsUncalled (log wires) × AreConsoled [] rounds × IsHalt (clients_left [] rounds) halt
       × LogsAll (log wires) (log left) (flat_map console_calls rounds ++ halt_calls halt)
-      × (AreHonestRows → RoundsTell institutions (names_of institutions) rows [] rounds
-      × HaltTells institutions (names_of institutions) rows (rounds_acts rounds) halt)
+      × RoundsTell institutions (names_of institutions) rows [] rounds
+      × HaltTells institutions (names_of institutions) rows (rounds_acts rounds) halt
 
 -- Rounds were made, at most so many, and the next was stopped, for this cause.
 pub record ServedUpTo {Wired Console : Type 0} (log : Wired → Option (List Call))
-    (console_log : Console → Option (List Call)) (AreHonestRows breaks : Type 0)
+    (console_log : Console → Option (List Call)) (breaks : Type 0)
     (institutions : List Institution) (rows : List Row) (count : ℕ) (console : Option (List ℕ))
     (cause : Stop) : Type 0 where
   pub rounds : List Round
@@ -238,7 +236,7 @@ pub record ServedUpTo {Wired Console : Type 0} (log : Wired → Option (List Cal
   pub halt : Halt
   pub causes : HasCause breaks (halt_cut halt) cause
   pub served : AreServed log institutions rows (rounds_acts rounds ++ halt_acts halt) (halt_cut halt)
-  pub consoled : HasConsoleTo console_log AreHonestRows institutions rows console rounds halt
+  pub consoled : HasConsoleTo console_log institutions rows console rounds halt
 
 -- How a service ends early: for want of memory, for the keys of its web front, or because nobody can
 -- come in, before it was ready; for a cause after it was, and what went before is so; because the output fails, after some octets
@@ -256,12 +254,6 @@ module _ (breaks may_fail : Type 0) (before after : Option (List ℕ)) (port : �
       (stop.Store number ≡ unclosed_store) × Appends before after (ready_text port)
   EndsService other = ⊥
 
--- Whatever keeps rows at a place is honest, as memory is.
-abbrev pub AreHonestAt : {File : Type 0} → (File → State) → RowsPlace → Type 0
-AreHonestAt state InMemory = Unit {0}
-AreHonestAt state (InNewStore path) = AreHonest state
-AreHonestAt state (InStore path) = AreHonest state
-
 module _ {Wired Console File : Type 0} (log : Wired → Option (List Call))
     (console_log : Console → Option (List Call)) (state : File → State)
     (held : List ℕ → Option (List ℕ)) (stored : List ℕ → List Row → Type 0)
@@ -273,8 +265,7 @@ module _ {Wired Console File : Type 0} (log : Wired → Option (List Call))
       × ((institutions : List Institution) × IsConfigured held serving.config institutions
       × ((kept : List Row) × (IsInStore serving.place → closed kept)
       × IsOver state stored serving.place (λ rows.
-      Served log console_log (AreHonestAt state serving.place) institutions rows
-      (turn_count serving.turns) (clients_of serving) kept)))
+      Served log console_log institutions rows (turn_count serving.turns) (clients_of serving) kept)))
 
   -- The reasons why a service stops: a refused configuration or store, when nothing was printed, or an early end.
   abbrev pub StopsService : Type 0 → (List ℕ → Type 0) → Type 0 → Stop → Type 0
@@ -283,6 +274,5 @@ module _ {Wired Console File : Type 0} (log : Wired → Option (List Call))
       ⊎ ((institutions : List Institution) × IsConfigured held serving.config institutions
       × ((Keeps before after × RefusesStore cause)
       ⊎ EndsService breaks may_fail before after serving.port (λ why.
-      IsOver state stored serving.place (λ rows. ServedUpTo log console_log
-      (AreHonestAt state serving.place) breaks institutions rows (turn_count serving.turns)
-      (clients_of serving) why)) cause))
+      IsOver state stored serving.place (λ rows. ServedUpTo log console_log breaks institutions
+      rows (turn_count serving.turns) (clients_of serving) why)) cause))

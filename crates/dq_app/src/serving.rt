@@ -10,7 +10,6 @@ ghost use Rattle.dq_cli.specs.CommandLine.{clients_of, serving_in, web_front_in}
 ghost use Rattle.dq_captures.specs.Reports.{names_of};
 ghost use Rattle.dq_captures.specs.Surroundings.{BreaksOff};
 ghost use Rattle.dq_app.specs.Program.{AsFarAsHonest};
-ghost use Rattle.dq_console.specs.ServiceProgress.{AreHonest};
 ghost use Rattle.dq_app.specs.Rounds.{RoundsWent, RoundsCut, AreBeside, AreBesideTo, IsAttended, IsInterrupted, Begins, view_of};
 ghost use Rattle.dq_app.specs.Serving.{ready_text, turn_count, limit_of, nanoseconds, AreLimits, ListensAs, IsUncalled, IsListenError, Served, ServedUpTo, EndsService, IsServed, StopsService};
 
@@ -237,16 +236,17 @@ fn turn_once<N: Network, T: Tables, B: Backups<T>>(
     requires working { turner.old.fault ≡ None }
     ensures went { OnOk result (RoundsWent T.state (N.Wired.log listeners.old.wires)
         (N.Wired.log listeners.new.wires) turner.old turner.new 1
-        (AreBeside T.state (N.Wired.log listeners.old.wires) turner.old
+        (AreBeside T.state (N.Wired.log listeners.old.wires) turner.old turner.new.server
         (view_of N.Console.log listeners.old.console)
         (view_of N.Console.log listeners.new.console))) }
     ensures cut { IfErr result (RoundsCut T.state (N.may_break network.now)
         (N.Wired.log listeners.old.wires) (N.Wired.log listeners.new.wires) turner.old
         turner.new.server 1 (AreBesideTo T.state (N.Wired.log listeners.old.wires) turner.old
-        (view_of N.Console.log listeners.old.console)
+        turner.new.server (view_of N.Console.log listeners.old.console)
         (view_of N.Console.log listeners.new.console))) }
 {
     calls_are_a_serving::<T>();
+    steps_are_a_history::<T>();
     turn_told(network, turner, &mut listeners.wires)?;
     let most = rest_of(turner, most);
     attend(network, backups, turner, listeners)?;
@@ -292,13 +292,13 @@ fn serve_rounds<N: Network, T: Tables, B: Backups<T>>(
     requires working { turner.old.fault ≡ None }
     ensures went { OnOk result (RoundsWent T.state (N.Wired.log listeners.old.wires)
         (N.Wired.log listeners.new.wires) turner.old turner.new pace.turns
-        (AreBeside T.state (N.Wired.log listeners.old.wires) turner.old
+        (AreBeside T.state (N.Wired.log listeners.old.wires) turner.old turner.new.server
         (view_of N.Console.log listeners.old.console)
         (view_of N.Console.log listeners.new.console))) }
     ensures cut { IfErr result (RoundsCut T.state (N.may_break network.now)
         (N.Wired.log listeners.old.wires) (N.Wired.log listeners.new.wires) turner.old
         turner.new.server pace.turns (AreBesideTo T.state (N.Wired.log listeners.old.wires)
-        turner.old (view_of N.Console.log listeners.old.console)
+        turner.old turner.new.server (view_of N.Console.log listeners.old.console)
         (view_of N.Console.log listeners.new.console))) }
 {
     for _turn in 0..pace.turns {
@@ -338,13 +338,13 @@ pub fn serve_by<N: AllocGlobal + Network, T: Tables + Drop, B: Backups<T>, W: Si
         (ready_text service.entry.port)) }
     ensures flushed { OnOk result (W.is_flushed output.new) }
     ensures served { IfOk result (λ tables. (T.state tables).honest →
-        (T.state server.tables).honest × Served N.Wired.log N.Console.log (AreHonest T.state)
-        server.institutions (T.state server.tables).rows (turn_count service.entry.turns)
+        (T.state server.tables).honest × Served N.Wired.log N.Console.log server.institutions
+        (T.state server.tables).rows (turn_count service.entry.turns)
         (clients_of (serving_in service.entry)) (T.state tables).rows) }
     ensures ends { IfErr result (EndsService (N.may_break network.now) (W.may_fail output.old)
         (W.written output.old) (W.written output.new) service.entry.port (λ stop.
         AsFarAsHonest T.state ((T.state server.tables).honest × ServedUpTo N.Wired.log
-        N.Console.log (AreHonest T.state) (N.may_break network.now) server.institutions
+        N.Console.log (N.may_break network.now) server.institutions
         (T.state server.tables).rows (turn_count service.entry.turns)
         (clients_of (serving_in service.entry)) stop))) }
 {

@@ -18,7 +18,7 @@ use Rattle.dq_wires.specs.Servings.{Act, act_steps, Serving, all_turned, served_
 use Rattle.dq_wires.specs.Servings.{Served as ServedOver}
 use Rattle.dq_wires.specs.Steps.{Step, Runs}
 use Rattle.dq_wires.specs.Turns.Cut.{NoRoom}
-use Rattle.dq_wires.specs.Turns.{Cut, Hold, TurnsWent, TurnsCut}
+use Rattle.dq_wires.specs.Turns.{Cut, Hold, TurnsWent, TurnsCut, all_steps}
 use Rattle.dq_wires.specs.Servings.Act.{Ordered}
 use Rattle.dq_wires.specs.ServerSteps.{Stepped, Moves, Fails}
 use Rattle.dq_wires.specs.Turners.{TurnerView, IsOrder}
@@ -31,10 +31,10 @@ use Rattle.dq_console.specs.declared.console_line.ConsoleLine.TheVariants as lin
 use Rattle.dq_console.specs.Console.{HeldClient, client_with_answer, rows_after, Answering, OrdersOnce, IsAnswer, TellsOf, IsUnanswered, IsLineUnanswered}
 use Rattle.dq_console.specs.Console.LineAnswer.{Obeyed, Reread, Refused, Unread}
 use Rattle.dq_console.specs.RequestNotes.{is_bad}
-use Rattle.dq_console.specs.ServiceProgress.{AreHonest, WentOn, Attended, Holds, HoldsAt}
+use Rattle.dq_console.specs.ServiceProgress.{WentOn, Attended, Holds, HoldsAt}
 use Rattle.dq_console.specs.ClientTurns.{Does, Halted, HaltedBy, Responds, RespondedBy, LineAnswered, LineUnanswered}
 use Rattle.dq_console.specs.ConsoleLines.{SpellsRequest, TellsLine}
-use Rattle.dq_console.specs.Requests.{Orders, Answered, order_in, LooksInPart, OrdersInPart, Unanswered}
+use Rattle.dq_console.specs.Requests.{Orders, Answered, order_in, IsLeft, LooksInPart, OrdersInPart, Unanswered}
 
 module _ {Tables : Type 0} (state : Tables → State) where
   -- the laws of servings that are used
@@ -71,28 +71,30 @@ module _ {Tables : Type 0} (state : Tables → State) where
 
   -- what holds of a server's institutions and rows holds of those of the serving, after its acts
   module _ (histories : StepsServe) (whole : WholeServes) (kept : RowsServe) where
-    pub holds-of : (IsSo : List Institution → List Row → Type 0) (old : TurnerView Tables)
-        → (AreHonest state → IsSo old.server.institutions (state old.server.tables).rows)
-        → Holds state old (λ institutions rows done. IsSo institutions (rows_after institutions rows done))
-    holds-of IsSo old so now honest rows start first done s =
+    pub holds-of : (IsSo : List Institution → List Row → Type 0) (old : TurnerView Tables) (new : ServerView Tables)
+        → ((state new.tables).honest → (state old.server.tables).honest)
+        → ((state new.tables).honest → IsSo old.server.institutions (state old.server.tables).rows)
+        → Holds state old new (λ institutions rows done. IsSo institutions (rows_after institutions rows done))
+    holds-of IsSo old new was so now honest rows start first done s =
         let same : old.server.institutions ≡ first.institutions =
         s.steps.looks.institutions ∙ (histories first s.steps.last (flat_map act_steps done) s.steps.runs).institutions in
         let are : (state old.server.tables).rows ≡ rows_after first.institutions rows done =
-        kept rows first old.server done NoRoom (whole rows start now first old.server old.hold done s) (honest old.server.tables) in
+        kept rows first old.server done NoRoom (whole rows start now first old.server old.hold done s) (was honest) in
         subst (λ (i : List Institution). IsSo i (rows_after first.institutions rows done)) same
         (subst (λ (r : List Row). IsSo old.server.institutions r) are (so honest))
 
   -- what holds after acts
-  pub holds-later : {before after : Option (List Call)} {old mid : TurnerView Tables} {acts : List Act} (AreSo : List Institution → List Row → List Act → Type 0)
-      → WentOn state before after old mid acts → HoldsAt state after mid AreSo
-      → HoldsAt state before old (λ institutions rows done. AreSo institutions rows (done ++ acts))
-  holds-later {acts = acts} AreSo went next honest rows start first done s =
+  pub holds-later : {before after : Option (List Call)} {old mid : TurnerView Tables} {acts : List Act} (new : ServerView Tables)
+      (AreSo : List Institution → List Row → List Act → Type 0) → WentOn state before after old mid acts → HoldsAt state after mid new AreSo
+      → HoldsAt state before old new (λ institutions rows done. AreSo institutions rows (done ++ acts))
+  holds-later {acts = acts} new AreSo went next honest rows start first done s =
       next honest rows start first (done ++ acts) (went.serves rows start first done s)
 
   pub went-nowhere : (log : Option (List Call)) (it : TurnerView Tables) → WentOn state log log it it []
   went-nowhere log it = record {
     serves = λ rows start first done s. rw append-nil s;
     working = λ works. works;
+    was_honest = λ honest. honest;
   }
 
   module _ {before now after : Option (List Call)} {old mid new : TurnerView Tables} {acts later : List Act} where
@@ -100,14 +102,16 @@ module _ {Tables : Type 0} (state : Tables → State) where
     went-then one next = record {
       serves = λ rows start first done s. rw (← append_assoc done acts later) (next.serves rows start first (done ++ acts) (one.serves rows start first done s));
       working = λ works. next.working (one.working works);
+      was_honest = λ honest. one.was_honest (next.was_honest honest);
     }
 
-  pub went-by-turns : {before after : Option (List Call)} {old new : TurnerView Tables} {count : ℕ} → TurnsServe
+  pub went-by-turns : {before after : Option (List Call)} {old new : TurnerView Tables} {count : ℕ} → TurnsServe → StepsServe
       → (went : TurnsWent (Moves state) before after old.server new.server old.hold new.hold count) → new.fault ≡ None
       → WentOn state before after old new (all_turned went.turns)
-  went-by-turns {before} {after} {old} {new} {count} law went works = record {
+  went-by-turns {before} {after} {old} {new} {count} law histories went works = record {
     serves = λ rows start first done s. law rows start before after first old.server new.server old.hold new.hold done count s went;
     working = λ worked. works;
+    was_honest = (histories old.server new.server (all_steps went.turns) went.steps).was_honest;
   }
 
   module _ {old new : TurnerView Tables} (hold : new.hold ≡ old.hold) (fault : new.fault ≡ old.fault) where
@@ -117,18 +121,21 @@ module _ {Tables : Type 0} (state : Tables → State) where
       serves = λ rows start first done s.
           rw hold (law rows start log first old.server new.server old.hold done event reply s order step);
       working = λ works. fault ∙ works;
+      was_honest = step.goes.was_honest;
     }
 
     pub went-by-look : LooksServe → Looked state old.server new.server → Attended state old new []
     went-by-look law look = λ log. record {
       serves = λ rows start first done s. rw (hold, append-nil) (law rows start log first old.server new.server old.hold done s look);
       working = λ works. fault ∙ works;
+      was_honest = look.goes.was_honest;
     }
 
     pub went-by-nothing : new.server ≡ old.server → Attended state old new []
     went-by-nothing same = λ log. record {
       serves = λ rows start first done s. rw (same, hold, append-nil) s;
       working = λ works. fault ∙ works;
+      was_honest = λ honest. subst (λ (server : ServerView Tables). (state server.tables).honest) same honest;
     }
 
   module _ {old new : TurnerView Tables} (hold : new.hold ≡ old.hold) (fault : new.fault ≡ old.fault) (copied : List Row → Type 0) (names : List (List ℕ))
@@ -145,23 +152,24 @@ module _ {Tables : Type 0} (state : Tables → State) where
     }
 
     look-responds : (asked : Request) (answer : Response) → IsAnswer asked answer []
-        → (AreHonest state → TellsOf old.server.institutions names (state old.server.tables).rows asked answer)
+        → ((state new.server.tables).honest → TellsOf old.server.institutions names (state old.server.tables).rows asked answer)
         → Looked state old.server new.server → Responds state names old new asked answer
     look-responds asked answer is tells looked = record {
       stepped = [];
       is = is;
       acts = went-by-look hold fault looks looked;
-      tells = holds-of histories whole kept (λ (institutions : List Institution) (rows : List Row). TellsOf institutions names rows asked answer) old tells;
+      tells = holds-of histories whole kept (λ (institutions : List Institution) (rows : List Row). TellsOf institutions names rows asked answer) old
+          new.server looked.goes.was_honest tells;
     }
 
     -- what is asked was done, and its answer is of the rows as they are
     pub responds : (asked : Request) (answer : Response) → Answered state copied names old.server new.server asked answer
         → Responds state names old new asked answer
     responds (request.Search asked) answer is =
-        look-responds (request.Search asked) answer refl (λ honest. is.1 (honest new.server.tables)) is.0
+        look-responds (request.Search asked) answer refl is.1 is.0
     responds (request.Counts name) answer is =
-        look-responds (request.Counts name) answer refl (λ honest. is.1 (honest new.server.tables)) is.0
-    responds request.Report answer is = look-responds request.Report answer refl (λ honest. is.1 (honest new.server.tables)) is.0
+        look-responds (request.Counts name) answer refl is.1 is.0
+    responds request.Report answer is = look-responds request.Report answer refl is.1 is.0
     responds (request.Schedule institution octets) answer is =
         order-responds (request.Schedule institution octets) (event.Schedule institution octets) answer tt (λ acts once. once) (λ institutions rows. tt) is
     responds (request.Withdraw institution id) answer is =
@@ -207,6 +215,12 @@ module _ {Tables : Type 0} (state : Tables → State) where
       tells = λ now honest rows start first done s. tt;
       reread = tt;
     }
+
+  -- what is honest after a fault was so before
+  pub left-honest : {last new : ServerView Tables} → IsLeft state last new → (state new.tables).honest → (state last.tables).honest
+  left-honest (inl same) honest = subst (λ (server : ServerView Tables). (state server.tables).honest) same honest
+  left-honest (inr (inl (event, why, fails))) honest = fails.goes.was_honest honest
+  left-honest (inr (inr (why, fails))) honest = fails.goes.was_honest honest
 
   -- a turner as it was, but for its server
   abbrev at-server : TurnerView Tables → ServerView Tables → TurnerView Tables

@@ -19,7 +19,7 @@ use Rattle.dq_console.specs.Console.ClientTurn.{Took, Forgotten}
 use Rattle.dq_console.specs.ClientTurns.{Writes, Quiet, Does, LetsIn, HaltedAt, HaltedAtFront, ClientTurnMade, Visited, AllVisited, SomeVisited, RespondedBy, Attends, Interrupted}
 use Rattle.dq_console.specs.declared.asks.KeysError.{KeysError}
 use Rattle.dq_console.specs.ServiceProgress.{Attended, Holds}
-use Rattle.dq_console.proofs.ServiceProgress.{went-nowhere, went-then, holds-later}
+use Rattle.dq_console.proofs.ServiceProgress.{went-nowhere, went-then, holds-later, left-honest}
 
 visits-more : (visits : List Visit) (v : Visit) → AreVisits visits → IsVisit v → AreVisits (visits ++ v ∷ [])
 visits-more [] v a h = (h, tt)
@@ -109,7 +109,7 @@ module _ {Tables : Type 0} (state : Tables → State) (names : List (List ℕ)) 
     pub are : AreVisits visits
     pub calls : LogsAll before now (flat_map visit_calls visits)
     pub acts : Attended state old mid (flat_map visit_acts visits)
-    pub tells : Holds state old (λ institutions rows done. VisitsTell institutions names rows done visits)
+    pub tells : Holds state old mid.server (λ institutions rows done. VisitsTell institutions names rows done visits)
     pub holds : clients ≡ flat_map clients_kept visits ++ others
     pub place : at ≡ length (flat_map clients_kept visits)
 
@@ -166,10 +166,10 @@ module _ {Tables : Type 0} (state : Tables → State) (names : List (List ℕ)) 
         acts-more : Attended state old new (flat_map visit_acts (so.visits ++ item ∷ []))
         acts-more = rw (flat_map-more visit_acts so.visits item) (attended-then state so.acts went.acts)
 
-        told-more : Holds state old (λ institutions rows done. VisitsTell institutions names rows done (so.visits ++ item ∷ []))
+        told-more : Holds state old new.server (λ institutions rows done. VisitsTell institutions names rows done (so.visits ++ item ∷ []))
         told-more log honest rows start first done s =
-            tells-more first.institutions names rows done so.visits item (so.tells log honest rows start first done s)
-            (holds-later state (λ institutions rows acts. ClientTurnTells institutions names rows acts client went.client_turn) (so.acts log) (went.tells log) honest rows start
+            tells-more first.institutions names rows done so.visits item (so.tells log ((went.acts log).was_honest honest) rows start first done s)
+            (holds-later state new.server (λ institutions rows acts. ClientTurnTells institutions names rows acts client went.client_turn) (so.acts log) (went.tells log) honest rows start
             first done s)
 
         kept-more : (left : List HeldClient) → after_client_turn client went.client_turn ≡ left
@@ -246,7 +246,7 @@ module _ {Tables : Type 0} (state : Tables → State) (names : List (List ℕ)) 
             last = is.3.last;
             acts = attended-then state so.acts is.3.acts;
             left = is.3.left;
-            tells = so.tells;
+            tells = λ log honest. so.tells log ((is.3.acts log).was_honest (left-honest state is.3.left honest));
           }
 
   -- a turn that was interrupted at a line
@@ -277,22 +277,22 @@ module _ {Tables : Type 0} (state : Tables → State) (names : List (List ℕ)) 
     last = halted.last;
     acts = attended-then state all.acts halted.acts;
     left = halted.left;
-    tells = all.tells;
+    tells = λ log honest. all.tells log ((halted.acts log).was_honest (left-honest state halted.left honest));
   }
 
   -- a turn
   pub attends : {before mid after : Option (List Call)} {old one new : TurnerView Tables} {from via to : List HeldClient} {IsFront : Option Answering → Type 0}
       → LetsIn before mid from via → AllVisited state names mid after old one via to → RespondedBy state names one new IsFront
       → Attends state names before after old new from to IsFront
-  attends {before} {mid} {after} lets all responded = record {
+  attends {before} {mid} {after} {new = new} lets all responded = record {
     attending = record { letting = lets.letting; visits = all.visits; asked = responded.asked };
     is = record { lets = lets.lets; each = all.each ∙ lets.leaves; are = all.are; answers = responded.are };
     calls = logs-then before mid after (letting_calls lets.letting) (flat_map visit_calls all.visits) lets.calls all.calls;
     acts = attended-then state all.acts responded.acts;
     leaves = all.kept;
     tells = λ now honest rows start first done s. (
-      all.tells now honest rows start first done s,
-      holds-later state (λ institutions rows acts. AskedTells institutions names rows acts responded.asked) (all.acts now) (responded.tells now) honest rows start
+      all.tells now ((responded.acts now).was_honest honest) rows start first done s,
+      holds-later state new.server (λ institutions rows acts. AskedTells institutions names rows acts responded.asked) (all.acts now) (responded.tells now) honest rows start
           first done s,
     );
     front = responded.front;

@@ -137,7 +137,7 @@ module _ {Tables : Type 0} (state : Tables → State) (names : List (List ℕ)) 
     pub is : IsLineAnswer line answer
     pub acts : Attended state old new (answer_acts answer)
     pub leaves : next ≡ client_with_answer client (line_answer_text answer) (is_unread answer)
-    pub tells : Holds state old (λ institutions rows done.
+    pub tells : Holds state old new.server (λ institutions rows done.
         TellsRows institutions names (rows_after institutions rows done) answer)
     pub reread : IsRereadFor rereads answer
 
@@ -155,7 +155,7 @@ module _ {Tables : Type 0} (state : Tables → State) (names : List (List ℕ)) 
     pub calls : LogsAll before after (client_turn_calls client client_turn)
     pub acts : Attended state old new (client_turn_acts client_turn)
     pub leaves : after_client_turn client client_turn ≡ (if there then next ∷ [] else [])
-    pub tells : Holds state old (λ institutions rows done.
+    pub tells : Holds state old new.server (λ institutions rows done.
         ClientTurnTells institutions names rows done client client_turn)
 
   -- it was made
@@ -169,7 +169,7 @@ module _ {Tables : Type 0} (state : Tables → State) (names : List (List ℕ)) 
         (visit_calls (record { client = client; client_turn = client_turn; shut = shut }))
     pub acts : Attended state old new (client_turn_acts client_turn)
     pub leaves : after_client_turn client client_turn ≡ (if there then next ∷ [] else [])
-    pub tells : Holds state old (λ institutions rows done.
+    pub tells : Holds state old new.server (λ institutions rows done.
         ClientTurnTells institutions names rows done client client_turn)
 
   -- the turns of all were made
@@ -181,7 +181,7 @@ module _ {Tables : Type 0} (state : Tables → State) (names : List (List ℕ)) 
     pub calls : LogsAll before after (flat_map visit_calls visits)
     pub acts : Attended state old new (flat_map visit_acts visits)
     pub kept : to ≡ flat_map clients_kept visits
-    pub tells : Holds state old (λ institutions rows done.
+    pub tells : Holds state old new.server (λ institutions rows done.
         VisitsTell institutions names rows done visits)
 
   -- the turns of some were made, and a fault came in that of the next
@@ -200,7 +200,7 @@ module _ {Tables : Type 0} (state : Tables → State) (names : List (List ℕ)) 
     pub last : TurnerView Tables
     pub acts : Attended state old last (flat_map visit_acts visits ++ order_acts order)
     pub left : IsLeft state last.server new.server
-    pub tells : Holds state old (λ institutions rows done.
+    pub tells : Holds state old new.server (λ institutions rows done.
         VisitsTell institutions names rows done visits)
 
   -- a request was answered so
@@ -208,7 +208,7 @@ module _ {Tables : Type 0} (state : Tables → State) (names : List (List ℕ)) 
     pub stepped : List Act
     pub is : IsAnswer asked answer stepped
     pub acts : Attended state old new stepped
-    pub tells : Holds state old (λ institutions rows done.
+    pub tells : Holds state old new.server (λ institutions rows done.
         TellsOf institutions names (rows_after institutions rows done) asked answer)
 
   -- what the web front asked was answered, or nothing was asked
@@ -216,7 +216,7 @@ module _ {Tables : Type 0} (state : Tables → State) (names : List (List ℕ)) 
     pub asked : Option Answering
     pub are : IsAnsweringIf asked
     pub acts : Attended state old new (asked_acts asked)
-    pub tells : Holds state old (λ institutions rows done.
+    pub tells : Holds state old new.server (λ institutions rows done.
         AskedTells institutions names rows done asked)
     pub front : IsFront asked
 
@@ -228,7 +228,7 @@ module _ {Tables : Type 0} (state : Tables → State) (names : List (List ℕ)) 
     pub calls : LogsAll before after (attending_calls attending)
     pub acts : Attended state old new (attending_acts attending)
     pub leaves : left ≡ after_attending attending
-    pub tells : Holds state old (λ institutions rows done.
+    pub tells : Holds state old new.server (λ institutions rows done.
         AttendingTells institutions names rows done attending)
     pub front : IsFront attending.asked
 
@@ -241,7 +241,7 @@ module _ {Tables : Type 0} (state : Tables → State) (names : List (List ℕ)) 
     pub last : TurnerView Tables
     pub acts : Attended state old last (interruption_acts it)
     pub left : IsLeft state last.server new.server
-    pub tells : Holds state old (λ institutions rows done.
+    pub tells : Holds state old new.server (λ institutions rows done.
         VisitsTell institutions names rows done it.visits)
 
 -- The request that waited is answered, and its answer is given to the web front; or none waited, and it is as it was.

@@ -100,10 +100,13 @@ IsBegunNoted guard other words = words ≡ codes "- - - -"
 abbrev pub IsTooLate : Option HttpDate → Written → Type 0
 IsTooLate date written = IsRefusal refusal.Time (unread_framing date) written
 
--- A refusal is framed by its head or, as if none was read, by nothing. The connection ends.
-abbrev pub IsRefusalFraming : Guard → List ℕ → Framing → Type 0
-IsRefusalFraming guard came framing = ((date : Option HttpDate) × (framing ≡ unread_framing date))
-    ⊎ ((head : Head) × IsCutOff came (cut.Begun head) × IsFramed guard head true framing)
+-- Octets are refused for a cause: no head can be read, and the response is framed as if none was; or a head is read that
+-- is judged so, and frames it. The connection ends.
+abbrev pub IsRefusedSo : Guard → List ℕ → Refusal → Framing → Type 0
+IsRefusedSo guard came refusal framing =
+    (IsCutOff came (cut.Refused refusal) × ((date : Option HttpDate) × (framing ≡ unread_framing date)))
+    ⊎ ((head : Head) × IsCutOff came (cut.Begun head) × IsJudged guard head (judgement.Refused refusal)
+    × IsFramed guard head true framing)
 
 -- Nothing is done for what is no whole head, or for a head that is let in, whose body is awaited; only such a
 -- sender is told to go on. A refusal ends the connection.
@@ -112,5 +115,5 @@ IsOutcome guard came outcome.AwaitHead = IsCutOff came cut.Unfinished
 IsOutcome guard came outcome.AwaitBody = (head : Head) × IsAwaited guard came head
 IsOutcome guard came outcome.GoOn = (head : Head) × IsAwaited guard came head × IsTrue (is_expecting head)
 IsOutcome guard came (outcome.Refuse words written) = (refusal : Refusal) × (framing : Framing)
-    × IsRefusalFraming guard came framing × IsRefusal refusal framing written
+    × IsRefusedSo guard came refusal framing × IsRefusal refusal framing written
 IsOutcome guard came (outcome.Answer answer) = IsAnswer guard came answer

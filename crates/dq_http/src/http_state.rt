@@ -2,10 +2,12 @@
 ghost use Rattle.std.specs.Prelude.{◌≡◌, ℕ, List, map, string_bytes, IfOk, IfSome};
 ghost use Rattle.dq_web.specs.Answers.{IsReplyTo, IsResponse};
 ghost use Rattle.dq_web.specs.Guards.{IsProxy};
+ghost use Rattle.dq_web.specs.ParsedRequests.{IsJudged};
+ghost use Rattle.dq_web.specs.declared.guard.Guard.{Guard};
 ghost use Rattle.dq_web.specs.Requests.{IsCutOff, IsRequest};
 ghost use Rattle.dq_web.specs.declared.cutting.Cut.{Cut};
 ghost use Rattle.dq_web.specs.declared.cutting.Cut.TheVariants as cut;
-ghost use Rattle.dq_http.specs.RequestOutcomes.{unread_framing, IsFramed, IsGiven, IsGivenAs, IsAnswer, IsOutcome, IsTooLate, IsBegunNoted};
+ghost use Rattle.dq_http.specs.RequestOutcomes.{unread_framing, IsFramed, IsGiven, IsGivenAs, IsAnswer, IsAwaited, IsOutcome, IsTooLate, IsBegunNoted};
 ghost use Rattle.dq_http.specs.Places.{is_proxy};
 ghost use Rattle.dq_http.specs.InstitutionLimits.{limits_of};
 
@@ -73,6 +75,18 @@ fn unread_framing(date: Option<HttpDate>) -> Framing
         date,
         viewer: None,
         kind: ResourceKind::Nowhere,
+    }
+}
+
+/// The outcome for a head that is let in, and whose body has not come.
+fn awaiting(head: &Head<'_>) -> RequestOutcome
+    ensures { (guard : Guard) (came : List ℕ) → IsAwaited guard came head.now
+        → IsOutcome guard came result }
+{
+    if head.is_expecting() {
+        RequestOutcome::GoOn
+    } else {
+        RequestOutcome::AwaitBody
     }
 }
 
@@ -181,10 +195,8 @@ impl HttpState {
                 let words = words_of(self.alloc, &[], head)?;
                 Ok(RequestOutcome::Refuse(words, refused(self.alloc, refusal, &framing)?))
             }
-            Judgement::Open | Judgement::Opened(_) if head.is_expecting() => {
-                Ok(RequestOutcome::GoOn)
-            }
-            Judgement::Open | Judgement::Opened(_) => Ok(RequestOutcome::AwaitBody),
+            Judgement::Open { .. } => Ok(awaiting(head)),
+            Judgement::Opened { .. } => Ok(awaiting(head)),
         }
     }
 
@@ -233,12 +245,18 @@ impl HttpState {
         }
     }
 
-    /// Returns what a request is given.
-    fn given_for(&self, request: &HttpRequest<'_>, framing: Framing) -> Result<Given, AllocError>
-        ensures { IfOk result (IsGiven self.now.guard request.now framing) }
+    /// Returns what a request is given by what it asks.
+    fn given_for(
+        &self,
+        judgement: Judgement<'_>,
+        request: &HttpRequest<'_>,
+        framing: Framing,
+    ) -> Result<Given, AllocError>
+        ensures { (guard : Guard) → IsJudged guard request.now.head judgement.entry
+            → IfOk result (IsGiven guard request.now framing) }
     {
         let alloc = self.alloc;
-        match ask(alloc, &self.guard, request)? {
+        match ask(alloc, judgement, request)? {
             ParsedRequest::Refused(refusal) => {
                 Ok(Given::Response(refused(alloc, refusal, &framing)?))
             }
@@ -260,20 +278,22 @@ impl HttpState {
         }
     }
 
-    /// Returns what a request is given that is judged so by its head.
+    /// Returns what a request is given by the judgement of its head.
     fn given_as(
         &self,
         judgement: Judgement<'_>,
         request: &HttpRequest<'_>,
         framing: Framing,
     ) -> Result<Given, AllocError>
-        ensures { IfOk result (IsGivenAs judgement.entry self.now.guard request.now framing) }
+        ensures { (guard : Guard) → IsJudged guard request.now.head judgement.entry
+            → IfOk result (IsGivenAs judgement.entry guard request.now framing) }
     {
         match judgement {
             Judgement::Refused(refusal) => {
                 Ok(Given::Response(refused(self.alloc, refusal, &framing)?))
             }
-            Judgement::Open | Judgement::Opened(_) => self.given_for(request, framing),
+            Judgement::Open { .. } => self.given_for(judgement, request, framing),
+            Judgement::Opened { .. } => self.given_for(judgement, request, framing),
         }
     }
 

@@ -1,3 +1,4 @@
+pub mod AnyFiles
 pub mod Closing
 pub mod Contents
 pub mod Memory

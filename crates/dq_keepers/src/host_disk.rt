@@ -11,7 +11,7 @@ ghost use Rattle.sqlite.specs.Files.{file_state, IsOpened};
 ghost use Rattle.sqlite.specs.Start.{FindsIn};
 
 use dq_sql::SqlTables;
-use sqlite::{Connection, Error, FileFrom, FileStore, Start, Wary};
+use sqlite::{Connection, Error, FileFrom, FileStore, Start};
 use sqlite_disk::Disk;
 
 /// A connection to the two files of a store.
@@ -52,14 +52,35 @@ pub trait FilesAt: Start {
     ghost wary: { Self.Start.is_mixing ≡ false };
 }
 
-/// For `main` alone to name, which can know no contents: it says nothing of what files hold.
-impl FilesAt for Wary {
-    ghost use Rattle.std.specs.Prelude.{[], refl};
+/// The files at some path of the machine, for `main` to name. No code can know what they hold. Here the path
+/// and the contents are definitions that no proof looks into. So what is said at this type is proved
+/// whatever they are.
+#[derive(Drop)]
+pub struct AnyFiles;
 
-    ghost path = { [] };
+impl Start for AnyFiles {
+    ghost use Rattle.std.specs.Prelude.{false};
+    ghost use Rattle.dq_keepers.specs.AnyFiles.{any_log, any_database};
 
-    fn begin() -> Wary {
-        Wary
+    ghost log = { any_log };
+
+    ghost db = { any_database };
+
+    ghost is_mixing = { false };
+
+    fn mixes() -> bool {
+        false
+    }
+}
+
+impl FilesAt for AnyFiles {
+    ghost use Rattle.std.specs.Prelude.{refl};
+    ghost use Rattle.dq_keepers.specs.AnyFiles.{any_path};
+
+    ghost path = { any_path };
+
+    fn begin() -> AnyFiles {
+        AnyFiles
     }
 
     ghost wary = { refl };

@@ -9,6 +9,6 @@ mod paths;
 mod stores;
 
 pub use copy_fault::CopyFault;
-pub use host_disk::{FilesAt, HostDisk, HostTables};
+pub use host_disk::{AnyFiles, FilesAt, HostDisk, HostTables};
 pub use memory::RowsInMemory;
 pub use stores::{back_up, close_store, copy_store, create_store, migrate_store, open_store};

@@ -1,4 +1,4 @@
-//! Stores in files, and those on a disk of the machine.
+//! Stores in files, and those of the program.
 ghost use Rattle.std.specs.Prelude.{◌≡◌, false, ℕ, List, [], length, map, IfOk, OnOk};
 ghost use Rattle.dq_tables.specs.declared.row.Row.{Row};
 ghost use Rattle.dq_core.specs.Looking.{LeavesAlone};
@@ -6,15 +6,15 @@ ghost use Rattle.dq_core.specs.Soundness.{HoldSound};
 
 use dq_app::{OpenError, Unclosed};
 use dq_keepers::{
-    CopyFault, HostDisk, HostTables, back_up, close_store, copy_store, create_store, migrate_store,
-    open_store,
+    AnyFiles, CopyFault, HostDisk, HostTables, back_up, close_store, copy_store, create_store,
+    migrate_store, open_store,
 };
 use dq_request::BackupError;
 use dq_sql::{MigrateFault, StoreFault};
 use dq_tables::Tables;
-use sqlite::{FileFrom, Wary};
+use sqlite::FileFrom;
+use sqlite_disk::Disk;
 use std::alloc::Global;
-use std::marker::PhantomData;
 
 /// Stores in files. The functions are those of `Stores`, with the runtime.
 pub trait FileStores {
@@ -105,34 +105,39 @@ fn backup_error(fault: CopyFault) -> BackupError {
     }
 }
 
-/// The stores on a disk of the machine, whatever the files there hold.
-pub struct DiskStores<D> {
-    disk: PhantomData<D>,
-}
+/// The stores of the program: those at some path, which hold what they hold. It is a type without
+/// parameters, since the prover meets a limit where `perform` is called on a machine with this type of
+/// rows.
+pub struct ProgramStores;
 
-impl<D: HostDisk> FileStores for DiskStores<D> {
+impl FileStores for ProgramStores {
     ghost use Rattle.std.specs.Prelude.{◌≡◌};
     ghost use Rattle.dq_keepers.specs.Closing.{IsClosed};
     ghost use Rattle.dq_keepers.specs.Contents.{AreCopied, AreMigrated, AreHeld};
 
-    type Kept = HostTables<D>;
+    type Kept = HostTables<FileFrom<AnyFiles>>;
 
-    ghost stored = { λ path rows. (path ≡ D.place) × AreHeld D.contents rows };
+    ghost stored = { λ path rows. (path ≡ ⟦<FileFrom<AnyFiles> as HostDisk>⟧.place)
+        × AreHeld ⟦<FileFrom<AnyFiles> as HostDisk>⟧.contents rows };
 
-    ghost migrated = { λ from kept. from ≡ D.place → AreMigrated D.Disk D.contents kept };
+    ghost migrated = { λ from kept. from ≡ ⟦<FileFrom<AnyFiles> as HostDisk>⟧.place →
+        AreMigrated ⟦<FileFrom<AnyFiles> as Disk>⟧
+        ⟦<FileFrom<AnyFiles> as HostDisk>⟧.contents kept };
 
-    ghost copied = { λ from names kept. from ≡ D.place → AreCopied D.Disk D.contents names kept };
+    ghost copied = { λ from names kept. from ≡ ⟦<FileFrom<AnyFiles> as HostDisk>⟧.place →
+        AreCopied ⟦<FileFrom<AnyFiles> as Disk>⟧
+        ⟦<FileFrom<AnyFiles> as HostDisk>⟧.contents names kept };
 
-    ghost closed = { λ rows. IsClosed D.Disk rows };
+    ghost closed = { λ rows. IsClosed ⟦<FileFrom<AnyFiles> as Disk>⟧ rows };
 
-    fn create(rt: &HostRuntime, alloc: Global, path: &str) -> Result<HostTables<D>, OpenError> {
+    fn create(rt: &HostRuntime, alloc: Global, path: &str) -> Result<Self::Kept, OpenError> {
         match create_store(rt, alloc, path) {
             Ok(tables) => Ok(tables),
             Err(fault) => Err(open_error(fault)),
         }
     }
 
-    fn open(rt: &HostRuntime, alloc: Global, path: &str) -> Result<HostTables<D>, OpenError> {
+    fn open(rt: &HostRuntime, alloc: Global, path: &str) -> Result<Self::Kept, OpenError> {
         match open_store(rt, alloc, path) {
             Ok(tables) => Ok(tables),
             Err(fault) => Err(open_error(fault)),
@@ -144,7 +149,7 @@ impl<D: HostDisk> FileStores for DiskStores<D> {
         alloc: Global,
         from: &str,
         to: &str,
-    ) -> Result<HostTables<D>, OpenError> {
+    ) -> Result<Self::Kept, OpenError> {
         match migrate_store(rt, alloc, from, to) {
             Ok(tables) => Ok(tables),
             Err(fault) => Err(migrate_error(fault)),
@@ -158,7 +163,7 @@ impl<D: HostDisk> FileStores for DiskStores<D> {
         to: &str,
         only: &[&str],
     ) -> Result<Result<u64, Unclosed>, OpenError> {
-        match copy_store::<D>(rt, alloc, from, to, only) {
+        match copy_store::<FileFrom<AnyFiles>>(rt, alloc, from, to, only) {
             Ok(Ok(count)) => Ok(Ok(count)),
             Ok(Err(_)) => Ok(Err(Unclosed)),
             Err(fault) => Err(open_error(fault)),
@@ -168,7 +173,7 @@ impl<D: HostDisk> FileStores for DiskStores<D> {
     fn back_up(
         rt: &HostRuntime,
         alloc: Global,
-        tables: &mut HostTables<D>,
+        tables: &mut Self::Kept,
         path: &str,
     ) -> Result<(), BackupError> {
         match back_up(rt, alloc, tables, path) {
@@ -177,77 +182,10 @@ impl<D: HostDisk> FileStores for DiskStores<D> {
         }
     }
 
-    fn close(tables: HostTables<D>) -> Result<(), Unclosed> {
+    fn close(tables: Self::Kept) -> Result<(), Unclosed> {
         match close_store(tables) {
             Ok(()) => Ok(()),
             Err(_) => Err(Unclosed),
         }
-    }
-}
-
-/// The stores of the program: those of the disk that `main` can name. It is a type of its own, since
-/// the prover meets a limit where `main` names `DiskStores` of that disk.
-pub struct ProgramStores;
-
-/// The stores of that disk.
-type Here = DiskStores<FileFrom<Wary>>;
-
-impl FileStores for ProgramStores {
-    type Kept = HostTables<FileFrom<Wary>>;
-
-    ghost stored = { λ path rows. ⟦<DiskStores<FileFrom<Wary>> as FileStores>⟧.stored path rows };
-
-    ghost migrated = { λ from kept. ⟦<DiskStores<FileFrom<Wary>> as FileStores>⟧.migrated from kept };
-
-    ghost copied = { λ from names kept. ⟦<DiskStores<FileFrom<Wary>> as FileStores>⟧.copied from names kept };
-
-    ghost closed = { λ rows. ⟦<DiskStores<FileFrom<Wary>> as FileStores>⟧.closed rows };
-
-    fn create(
-        rt: &HostRuntime,
-        alloc: Global,
-        path: &str,
-    ) -> Result<HostTables<FileFrom<Wary>>, OpenError> {
-        Here::create(rt, alloc, path)
-    }
-
-    fn open(
-        rt: &HostRuntime,
-        alloc: Global,
-        path: &str,
-    ) -> Result<HostTables<FileFrom<Wary>>, OpenError> {
-        Here::open(rt, alloc, path)
-    }
-
-    fn migrate(
-        rt: &HostRuntime,
-        alloc: Global,
-        from: &str,
-        to: &str,
-    ) -> Result<HostTables<FileFrom<Wary>>, OpenError> {
-        Here::migrate(rt, alloc, from, to)
-    }
-
-    fn copy(
-        rt: &HostRuntime,
-        alloc: Global,
-        from: &str,
-        to: &str,
-        only: &[&str],
-    ) -> Result<Result<u64, Unclosed>, OpenError> {
-        Here::copy(rt, alloc, from, to, only)
-    }
-
-    fn back_up(
-        rt: &HostRuntime,
-        alloc: Global,
-        tables: &mut HostTables<FileFrom<Wary>>,
-        path: &str,
-    ) -> Result<(), BackupError> {
-        Here::back_up(rt, alloc, tables, path)
-    }
-
-    fn close(tables: HostTables<FileFrom<Wary>>) -> Result<(), Unclosed> {
-        Here::close(tables)
     }
 }

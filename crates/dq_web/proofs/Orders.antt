@@ -1,5 +1,9 @@
 -- What the requests of methods and places are.
 use Rattle.std.proofs.Common.{◌≡◌, ◌≢◌, ℕ, ◌++◌, List, codes, String, Global, string_bytes, refl, sym, ap, ◌∙◌, subst}
+use Rattle.std.specs.Prelude.{◌&&◌, if◌then◌else◌, Bool, true, false}
+use Rattle.std.specs.Bool.{Decides}
+use Rattle.std.specs.Str.{bytes_eq}
+use Rattle.std.proofs.lemmas.Slice.Eq.{bytes_eq-Decides}
 use Rattle.percent_encoding.specs.Percent.{percent_decode}
 use Rattle.dq_request.specs.declared.request.Request.{Request}
 use Rattle.dq_request.specs.declared.request.Request.TheVariants as ask
@@ -7,14 +11,47 @@ use Rattle.dq_request.specs.declared.search.Search.{Search}
 use Rattle.dq_request.specs.Searches.{TakesWords}
 use Rattle.dq_web.specs.declared.keys.Right.TheVariants as right
 use Rattle.dq_web.specs.declared.cutting.BodyForm.{BodyForm}
+use Rattle.dq_web.specs.declared.cutting.Head.{Head}
+use Rattle.dq_web.specs.declared.guard.Guard.{Guard}
 use Rattle.dq_web.specs.declared.resource.Resource.{Resource}
 use Rattle.dq_web.specs.declared.resource.Resource.TheVariants.{Metrics, Backup, Counts, Studies, Series, Images, Worklist, Entry, Steps}
-use Rattle.dq_web.specs.declared.parsed_request.Method.{Method}
-use Rattle.dq_web.specs.declared.parsed_request.Method.TheVariants.{Get, Post, Delete, Preflight, Other}
-use Rattle.dq_web.specs.declared.parsed_request.Method.TheVariants as method
-use Rattle.dq_web.specs.ParsedRequests.{IsMethod, owner_of, words_in, IsSearchAt, Searching, Looking, IsBackup, AreEntryOctets, Posting, Deleting, Asks, IsLook, owner_of_request, right_of, right_of_request}
+use Rattle.dq_web.specs.declared.aim.Method.{Method}
+use Rattle.dq_web.specs.declared.aim.Method.TheVariants.{Get, Post, Delete, Preflight, Other}
+use Rattle.dq_web.specs.declared.aim.Method.TheVariants as method
+use Rattle.dq_web.specs.Aims.{owner_of, right_of, method_of}
+use Rattle.dq_web.specs.ParsedRequests.{words_in, IsSearchAt, Searching, Looking, IsBackup, AreEntryOctets, Posting, Deleting, Asks, IsLook, owner_of_request, right_of_request}
+use Rattle.dq_web.specs.Guards.{is_preflight}
 use Rattle.dq_web.specs.Resources.{IsPath, beneath}
 use Rattle.dq_web.proofs.Taking.{TakesWords-institution}
+
+-- the words of methods
+abbrev pub IsMethod : List ℕ → Method → Type 0
+IsMethod text Get = text ≡ codes "GET"
+IsMethod text method.Head = text ≡ codes "HEAD"
+IsMethod text Post = text ≡ codes "POST"
+IsMethod text Delete = text ≡ codes "DELETE"
+IsMethod text Preflight = Unit {0}
+IsMethod text Other = Unit {0}
+
+by-word : (text word : List ℕ) (test : Bool) (one next : Method) → Decides test (text ≡ word) → (text ≡ word → IsMethod text one)
+    → IsMethod text next → IsMethod text (if test then one else next)
+by-word text word true one next decides says otherwise = says (decides.0 refl)
+by-word text word false one next decides says otherwise = otherwise
+
+last-word : (text : List ℕ) (test : Bool) → IsMethod text (if test then Preflight else Other)
+last-word text true = tt
+last-word text false = tt
+
+-- the method of a head has its word
+pub named : (guard : Guard) (head : Head) (by : Method) → by ≡ method_of guard head → IsMethod head.method.now by
+named guard head by is =
+    let text = head.method.now in
+    subst (IsMethod text) (sym is)
+    (by-word text (codes "GET") (bytes_eq text (codes "GET")) Get _ (bytes_eq-Decides text (codes "GET")) (λ word. word)
+    (by-word text (codes "HEAD") (bytes_eq text (codes "HEAD")) method.Head _ (bytes_eq-Decides text (codes "HEAD")) (λ word. word)
+    (by-word text (codes "POST") (bytes_eq text (codes "POST")) Post _ (bytes_eq-Decides text (codes "POST")) (λ word. word)
+    (by-word text (codes "DELETE") (bytes_eq text (codes "DELETE")) Delete _ (bytes_eq-Decides text (codes "DELETE")) (λ word. word)
+    (last-word text (bytes_eq text (codes "OPTIONS") && is_preflight guard head.fields))))))
 
 -- a search is of the institution whose key opens its resource
 IsSearchAt-owner : (resource : Resource) (start : Search) → IsSearchAt resource start → start.institution ≡ owner_of resource

@@ -1,8 +1,8 @@
 -- Whom the front admits: by host, by origin and by key.
-use Rattle.std.specs.Prelude.{◌≡◌, ◌⊎◌, ℕ, ◌++◌, ◌&&◌, ◌||◌, Bool, true, false, if◌then◌else◌, IsTrue, List, codes, Option, Some, None, option_copied}
+use Rattle.std.specs.Prelude.{◌≡◌, ◌==◌, ℕ, ◌&&◌, ◌||◌, Bool, true, false, if◌then◌else◌, IsTrue, IsFalse, List, [], ◌∷◌, length, take, drop, codes, Option, Some, None, option_copied}
 use Rattle.std.specs.Char.{is_ascii_digit}
-use Rattle.std.specs.List.{list_all}
-use Rattle.std.specs.Str.{bytes_eq, trim_start}
+use Rattle.std.specs.List.{list_all, list_any}
+use Rattle.std.specs.Str.{bytes_eq, is_utf8, trim_start}
 use Rattle.std.specs.Net.Socket.{socket_ip}
 use Rattle.std.specs.declared.net.ip_addr.IpAddr.{IpAddr}
 use Rattle.std.specs.declared.net.socket_addr.SocketAddr.{SocketAddr}
@@ -14,50 +14,60 @@ use Rattle.dq_web.specs.declared.guard.Openness.TheVariants.{Tab, Viewer}
 use Rattle.dq_web.specs.declared.keys.Keys.{Keys}
 use Rattle.dq_web.specs.declared.keys.KeyEntry.{KeyEntry}
 use Rattle.dq_web.specs.declared.keys.Right.{Right}
-use Rattle.dq_web.specs.KeyFiles.{entry_for}
+use Rattle.dq_web.specs.declared.refusal.Refusal.{Refusal}
+use Rattle.dq_web.specs.declared.refusal.Refusal.TheVariants as refusal
+use Rattle.dq_web.specs.KeyFiles.{entry_for, opens}
 use Rattle.dq_web.specs.Requests.{is_named}
 
--- a Host is this one, in letters of either case, with or without a port (RFC 9110 sections 4.2.3 and 7.2)
-abbrev pub IsAt : List ℕ → List ℕ → Type 0
-IsAt host value = (name : List ℕ) × IsTrue (is_named name host) × ((value ≡ name)
-    ⊎ ((port : List ℕ) × (value ≡ name ++ (codes ":" ++ port)) × IsTrue (list_all is_ascii_digit port)))
+-- behind a host there is nothing, or a colon and the digits of a port (RFC 9110 section 4.2.3)
+abbrev pub is_port : List ℕ → Bool
+is_port [] = true
+is_port (octet ∷ digits) = octet == 58 && list_all is_ascii_digit digits
 
--- the front's own host, where it has one
-abbrev pub IsOwnHost : Option (List ℕ) → List ℕ → Type 0
-IsOwnHost None value = ⊥
-IsOwnHost (Some own) value = IsAt own value
+-- a Host is this one, in letters of either case, with or without a port (RFC 9110 sections 4.2.3 and 7.2)
+abbrev pub is_at : List ℕ → List ℕ → Bool
+is_at host value = is_named (take (length host) value) host && is_port (drop (length host) value)
+
+-- the front's own host, if it has one
+abbrev pub is_own_host : Option (List ℕ) → List ℕ → Bool
+is_own_host None value = false
+is_own_host (Some own) value = is_at own value
 
 -- a Host of the loopback, or the front's own
-abbrev pub IsKnownHost : Option (List ℕ) → List ℕ → Type 0
-IsKnownHost own value = IsAt (codes "127.0.0.1") value
-    ⊎ (IsAt (codes "localhost") value ⊎ (IsAt (codes "[::1]") value ⊎ IsOwnHost own value))
+abbrev pub is_known_host : Option (List ℕ) → List ℕ → Bool
+is_known_host own value = is_at (codes "127.0.0.1") value
+    || (is_at (codes "localhost") value || (is_at (codes "[::1]") value || is_own_host own value))
 
 -- the origin of a page of this host, by this scheme
-abbrev pub IsOrigin : List ℕ → List ℕ → List ℕ → Type 0
-IsOrigin scheme host origin =
-    (rest : List ℕ) × (origin ≡ scheme ++ rest) × IsTrue (is_named rest host)
+abbrev pub is_origin : List ℕ → List ℕ → List ℕ → Bool
+is_origin scheme host origin =
+    bytes_eq (take (length scheme) origin) scheme && is_named (drop (length scheme) origin) host
 
--- an Origin, where one is given, is that of a page of the same host (RFC 6454 section 7)
-abbrev pub IsSameOrigin : List ℕ → Option (List ℕ) → Type 0
-IsSameOrigin host None = Unit {0}
-IsSameOrigin host (Some origin) =
-    IsOrigin (codes "http://") host origin ⊎ IsOrigin (codes "https://") host origin
+-- an Origin, if there is one, is that of a page of the same host (RFC 6454 section 7)
+abbrev pub is_same_origin : List ℕ → Option (List ℕ) → Bool
+is_same_origin host None = true
+is_same_origin host (Some origin) =
+    is_origin (codes "http://") host origin || is_origin (codes "https://") host origin
 
--- a Sec-Fetch-Site, where one is given, is that of a page of the front, or of none
-abbrev pub IsSameSite : Option (List ℕ) → Type 0
-IsSameSite None = Unit {0}
-IsSameSite (Some site) = (site ≡ codes "same-origin") ⊎ (site ≡ codes "none")
+-- a Sec-Fetch-Site, if there is one, is that of a page of the front, or of none
+abbrev pub is_same_site : Option (List ℕ) → Bool
+is_same_site None = true
+is_same_site (Some site) = bytes_eq site (codes "same-origin") || bytes_eq site (codes "none")
 
--- the page for people may be opened from another site too, as a document of its own and in no frame
-abbrev pub IsAllowedSite : Bool → Fields → Type 0
-IsAllowedSite true fields = IsSameSite (option_copied fields.fetch_site)
-    ⊎ (option_copied fields.fetch_dest ≡ Some (codes "document"))
-IsAllowedSite false fields = IsSameSite (option_copied fields.fetch_site)
+-- a request is for a document of its own, and not for one in a frame
+abbrev pub is_document : Option (List ℕ) → Bool
+is_document None = false
+is_document (Some wanted) = bytes_eq wanted (codes "document")
+
+-- the page for people may be opened from another site too, as a document of its own
+abbrev pub is_allowed_site : Bool → Fields → Bool
+is_allowed_site is_page fields = (is_page && is_document (option_copied fields.fetch_dest))
+    || is_same_site (option_copied fields.fetch_site)
 
 -- no page of another origin sent a request, unless it opens the page for people
-pub record IsOfSite (host : List ℕ) (is_page : Bool) (fields : Fields) : Type 0 where
-  pub origin : IsSameOrigin host (option_copied fields.origin)
-  pub site : IsAllowedSite is_page fields
+abbrev pub is_of_site : List ℕ → Bool → Fields → Bool
+is_of_site host is_page fields =
+    is_same_origin host (option_copied fields.origin) && is_allowed_site is_page fields
 
 -- ---- a viewer of another origin (the CORS protocol of the Fetch standard)
 
@@ -90,12 +100,24 @@ abbrev pub is_to_viewer : Openness → Bool
 is_to_viewer Viewer = true
 is_to_viewer other = false
 
--- A request names a host of the front, and no page of another origin sent it. There are two exceptions: any page may open
--- the page for people in a tab of its own, and pages of the viewer's origin may read what is open to them.
+-- No page of another origin sent a request. There are two exceptions: any page may open the page for people in a tab of
+-- its own, and pages of the viewer's origin may read what is open to them.
+abbrev pub may_send : Guard → List ℕ → Openness → Fields → Bool
+may_send guard host openness fields =
+    (is_to_viewer openness && is_of_viewer guard.viewer (option_copied fields.origin))
+    || is_of_site host (is_to_tab openness) fields
+
+-- a request names a host of the front, and its sender may send it
 pub record IsAdmitted (guard : Guard) (host : List ℕ) (openness : Openness) (fields : Fields) : Type 0 where
-  pub known : IsKnownHost guard.host host
-  pub sender : IsTrue (is_to_viewer openness && is_of_viewer guard.viewer (option_copied fields.origin))
-      ⊎ IsOfSite host (is_to_tab openness) fields
+  pub known : IsTrue (is_known_host guard.host host)
+  pub sender : IsTrue (may_send guard host openness fields)
+
+-- why it is not admitted: it names a host that is not the front's, or the page of another origin sent it
+abbrev pub IsTurnedAway : Guard → List ℕ → Openness → Fields → Refusal → Type 0
+IsTurnedAway guard host openness fields refusal.Host = IsFalse (is_known_host guard.host host)
+IsTurnedAway guard host openness fields refusal.Origin =
+    IsTrue (is_known_host guard.host host) × IsFalse (may_send guard host openness fields)
+IsTurnedAway guard host openness fields why = ⊥
 
 -- ---- a proxy
 
@@ -106,12 +128,15 @@ IsProxy proxy None = ⊥
 
 -- ---- keys
 
--- an Authorization tells a key: behind the scheme, in letters of either case, and spaces (RFC 9110 section
--- 11.4, RFC 6750 section 2.1)
+-- The key that an Authorization tells, behind the scheme, in letters of either case, and spaces (RFC 9110 section 11.4,
+-- RFC 6750 section 2.1). Octets that are not UTF-8 are not a key.
+abbrev pub key_told : Option (List ℕ) → Option (List ℕ)
+key_told None = None
+key_told (Some text) = if is_named (take 7 text) (codes "bearer ") && is_utf8 (drop 7 text)
+    then Some (trim_start (drop 7 text)) else None
+
 abbrev pub TellsKey : Option (List ℕ) → List ℕ → Type 0
-TellsKey authorization key = (scheme : List ℕ) × (rest : List ℕ)
-    × (authorization ≡ Some (scheme ++ (codes " " ++ rest)))
-    × IsTrue (is_named scheme (codes "bearer")) × (key ≡ trim_start rest)
+TellsKey authorization key = key_told authorization ≡ Some key
 
 -- it tells a key of this name with this right, of which this is the first entry
 abbrev pub IsOpenedBy : Keys → List ℕ → Right → Option (List ℕ) → KeyEntry → Type 0
@@ -121,3 +146,13 @@ IsOpenedBy keys name right authorization entry = (key : List ℕ) × TellsKey au
 abbrev pub IsOpened : Keys → List ℕ → Right → Option (List ℕ) → Type 0
 IsOpened keys name right authorization =
     (entry : KeyEntry) × IsOpenedBy keys name right authorization entry
+
+-- Why none does. It tells no key that an entry of this name has, whatever its right; or entries of this name have the
+-- key, and none of them has the right.
+abbrev pub IsShut : Keys → List ℕ → Right → Option (List ℕ) → Refusal → Type 0
+IsShut keys name right authorization refusal.Key = (key : List ℕ) → TellsKey authorization key
+    → IsFalse (list_any (opens name (sha256 key)) keys.entries)
+IsShut keys name right authorization refusal.Right = (key : List ℕ) × TellsKey authorization key
+    × IsTrue (list_any (opens name (sha256 key)) keys.entries)
+    × (entry_for keys.entries name right (sha256 key) ≡ None)
+IsShut keys name right authorization why = ⊥

@@ -1,3 +1,4 @@
+pub mod Aims
 pub mod Answers
 pub mod ParsedRequests
 pub mod Counting

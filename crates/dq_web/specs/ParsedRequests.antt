@@ -1,8 +1,8 @@
 -- The questions that HTTP requests ask of the server.
-use Rattle.std.specs.Prelude.{◌≡◌, ◌⊎◌, ◌==◌, ℕ, ◌++◌, ◌&&◌, ◌||◌, not, nat_le, if◌then◌else◌, Bool, true, false, IsTrue, List, [], ◌∷◌, length, filter, codes, string_bytes, Option, Some, is_some, option_copied}
+use Rattle.std.specs.Prelude.{◌≡◌, ◌⊎◌, ◌==◌, ◌<◌, ℕ, ◌++◌, ◌&&◌, ◌||◌, not, nat_le, Bool, IsTrue, IsFalse, List, [], ◌∷◌, length, filter, codes, string_bytes, is_some, option_copied}
 use Rattle.std.specs.List.{list_all, list_any, slice_split, starts_with}
 use Rattle.std.specs.Option.{option_and_then}
-use Rattle.std.specs.Str.{bytes_eq}
+use Rattle.std.specs.Str.{bytes_eq, is_utf8}
 use Rattle.percent_encoding.specs.Percent.{percent_decode}
 use Rattle.dq_vr.specs.declared.Tag.{Tag}
 use Rattle.dq_vr.specs.declared.tags.TheConstants.{STUDY_INSTANCE_UID, SERIES_INSTANCE_UID}
@@ -19,7 +19,7 @@ use Rattle.dq_request.specs.declared.search.Key.{Key}
 use Rattle.dq_request.specs.declared.search.Search.{Search}
 use Rattle.dq_request.specs.declared.search.Subject.{Subject}
 use Rattle.dq_request.specs.declared.search.Subject.TheVariants as subject
-use Rattle.dq_request.specs.Searches.{TakesWords, StopsAt, name_in}
+use Rattle.dq_request.specs.Searches.{TakesWords, StopsAt, name_in, value_most}
 use Rattle.dq_web.specs.declared.cutting.BodyForm.{BodyForm}
 use Rattle.dq_web.specs.declared.cutting.BodyForm.TheVariants.{Dicom, DicomJson}
 use Rattle.dq_web.specs.declared.cutting.BodyForm.TheVariants as form
@@ -27,129 +27,37 @@ use Rattle.dq_web.specs.declared.cutting.Fields.{Fields}
 use Rattle.dq_web.specs.declared.cutting.Head.{Head}
 use Rattle.dq_web.specs.declared.cutting.HttpRequest.{HttpRequest}
 use Rattle.dq_web.specs.declared.guard.Guard.{Guard}
-use Rattle.dq_web.specs.declared.guard.Openness.{Openness}
-use Rattle.dq_web.specs.declared.guard.Openness.TheVariants.{Closed, Tab, Viewer}
 use Rattle.dq_web.specs.declared.keys.Right.{Right}
 use Rattle.dq_web.specs.declared.keys.Right.TheVariants as right
 use Rattle.dq_web.specs.declared.resource.Resource.{Resource}
 use Rattle.dq_web.specs.declared.resource.ResourceKind.{ResourceKind}
 use Rattle.dq_web.specs.declared.resource.ResourceKind.TheVariants as kind
 use Rattle.dq_web.specs.declared.resource.Resource.TheVariants.{Page, Style, Script, Health, Metrics, Backup, Counts, Studies, Series, Images, Unsearched, Worklist, Entry, Steps}
-use Rattle.dq_web.specs.declared.parsed_request.Aim.{Aim}
+use Rattle.dq_web.specs.declared.aim.Aim.{Aim}
+use Rattle.dq_web.specs.declared.aim.Method.{Method}
+use Rattle.dq_web.specs.declared.aim.Method.TheVariants.{Get, Post, Delete, Preflight, Other}
+use Rattle.dq_web.specs.declared.aim.Method.TheVariants as method
 use Rattle.dq_web.specs.declared.parsed_request.Judgement.{Judgement}
 use Rattle.dq_web.specs.declared.parsed_request.Judgement.TheVariants as judgement
 use Rattle.dq_web.specs.declared.parsed_request.ParsedRequest.{ParsedRequest}
 use Rattle.dq_web.specs.declared.parsed_request.ParsedRequest.TheVariants as asked
 use Rattle.dq_web.specs.declared.parsed_request.Document.{Document}
 use Rattle.dq_web.specs.declared.parsed_request.Document.TheVariants as document
-use Rattle.dq_web.specs.declared.parsed_request.Method.{Method}
-use Rattle.dq_web.specs.declared.parsed_request.Method.TheVariants.{Get, Post, Delete, Preflight, Other}
-use Rattle.dq_web.specs.declared.parsed_request.Method.TheVariants as method
 use Rattle.dq_web.specs.declared.parsed_request.PartTest.{PartTest}
 use Rattle.dq_web.specs.declared.parsed_request.PartTest.TheVariants as test
 use Rattle.dq_web.specs.declared.parsed_request.Question.{Question}
 use Rattle.dq_web.specs.declared.parsed_request.Wanted.{Wanted}
 use Rattle.dq_web.specs.declared.parsed_request.Wanted.TheVariants as wanted
 use Rattle.dq_web.specs.declared.parsed_request.Wish.{Wish}
-use Rattle.dq_web.specs.Guards.{is_preflight, IsSameOrigin, IsAdmitted, IsOpenedBy, IsOpened}
+use Rattle.dq_web.specs.declared.refusal.Refusal.{Refusal}
+use Rattle.dq_web.specs.declared.refusal.Refusal.TheVariants as refusal
+use Rattle.dq_web.specs.Aims.{IsPathAndQuery, IsTarget, IsAt, is_leave_asked, owner_of, right_of, is_free, IsLetIn, IsKeptOut}
+use Rattle.dq_web.specs.Guards.{is_same_origin, IsOpenedBy, IsOpened, IsShut}
 use Rattle.dq_web.specs.Resources.{kind_of, IsPath, beneath}
-
--- no space, no control and nothing past ASCII: 21H to 7EH
-abbrev pub is_visible : ℕ → Bool
-is_visible octet = nat_le 0x21 octet && nat_le octet 0x7E
 
 -- no control character
 abbrev pub is_printable : ℕ → Bool
 is_printable octet = nat_le 0x20 octet && not (octet == 0x7F)
-
--- A path, and a query where one is given: of a target in origin-form, whose host is that of the field Host;
--- or of one in absolute-form, which has the host itself (RFC 9112 sections 3.2.1 and 3.2.2).
-abbrev pub IsPathAndQuery : List ℕ → List ℕ → List ℕ → Type 0
-IsPathAndQuery text path query =
-    ((text ≡ path) × (query ≡ [])) ⊎ (text ≡ path ++ (codes "?" ++ query))
-
-abbrev pub IsTarget : List ℕ → Option (List ℕ) → List ℕ → List ℕ → Type 0
-IsTarget target field host text = ((target ≡ text) × (field ≡ Some host))
-    ⊎ ((target ≡ codes "http://" ++ (host ++ text)) ⊎ (target ≡ codes "https://" ++ (host ++ text)))
-
--- the methods that are served (RFC 9110 section 9.3)
-abbrev pub IsMethod : List ℕ → Method → Type 0
-IsMethod text Get = text ≡ codes "GET"
-IsMethod text method.Head = text ≡ codes "HEAD"
-IsMethod text Post = text ≡ codes "POST"
-IsMethod text Delete = text ≡ codes "DELETE"
-IsMethod text Preflight = text ≡ codes "OPTIONS"
-IsMethod text Other = Unit {0}
-
--- leave is asked to look (the CORS-preflight request of the Fetch standard)
-abbrev pub is_leave_asked : Method → Bool
-is_leave_asked Preflight = true
-is_leave_asked by = false
-
--- only for a page of the viewer's origin
-abbrev pub IsLeaveAsked : Guard → Fields → Method → Type 0
-IsLeaveAsked guard fields Preflight = IsTrue (is_preflight guard fields)
-IsLeaveAsked guard fields by = Unit {0}
-
--- the method of a head
-pub record IsMethodOf (guard : Guard) (head : Head) (by : Method) : Type 0 where
-  pub text : IsMethod head.method.now by
-  pub leave : IsLeaveAsked guard head.fields by
-
--- ---- what pages of other sites may send
-
--- what an institution keeps is searched or counted there
-abbrev pub is_searched : Resource → Bool
-is_searched (Counts name) = true
-is_searched (Studies name) = true
-is_searched (Series name study) = true
-is_searched (Images name study series) = true
-is_searched (Unsearched name) = true
-is_searched (Worklist name) = true
-is_searched (Steps name) = true
-is_searched resource = false
-
--- it changes nothing
-abbrev pub only_looks : Method → Bool
-only_looks Get = true
-only_looks method.Head = true
-only_looks Preflight = true
-only_looks by = false
-
-abbrev pub is_page : Resource → Bool
-is_page Page = true
-is_page resource = false
-
--- The page for people may be opened from each site, in a tab. What is searched may be looked at by pages of the
--- viewer's origin.
-abbrev pub openness_of : Resource → Method → Openness
-openness_of resource by = if is_page resource then Tab
-    else if is_searched resource && only_looks by then Viewer
-    else Closed
-
--- whose key opens a resource: an institution's, or the operator's
-abbrev pub owner_of : Resource → List ℕ
-owner_of (Counts name) = name.now
-owner_of (Studies name) = name.now
-owner_of (Series name study) = name.now
-owner_of (Images name study series) = name.now
-owner_of (Unsearched name) = name.now
-owner_of (Worklist name) = name.now
-owner_of (Entry name id) = name.now
-owner_of (Steps name) = name.now
-owner_of resource = codes "*"
-
--- the right that a method needs at an institution's resource: GET and HEAD read, POST and DELETE order
-abbrev pub institution_right : Method → Right
-institution_right Post = right.Order
-institution_right Delete = right.Order
-institution_right by = right.Read
-
--- at a resource
-abbrev pub right_of : Resource → Method → Right
-right_of Metrics by = right.Metrics
-right_of Backup by = right.Backup
-right_of resource by = institution_right by
 
 -- ---- searches
 
@@ -228,7 +136,10 @@ Looking (Counts name) query request = request ≡ ask.Counts name.now
 Looking Metrics query request = request ≡ ask.Report
 Looking resource query request = Searching resource query request
 
--- a path of a file, without control characters
+-- a path of a file: text without control characters
+abbrev pub is_file_path : List ℕ → Bool
+is_file_path body = not (length body == 0) && list_all is_printable body && is_utf8 body
+
 abbrev pub IsBackup : List ℕ → Request → Type 0
 IsBackup body (ask.Backup path) = (string_bytes path ≡ body) × IsTrue (list_all is_printable body)
 IsBackup body request = ⊥
@@ -274,6 +185,12 @@ abbrev pub IsMisspelledAt : Resource → List ℕ → List ℕ → Type 0
 IsMisspelledAt resource query part =
     (start : Search) × IsSearchAt resource start × StopsAt part (words_in query) start
 
+-- what GET comes to where something is searched
+abbrev pub IsSought : Resource → Fields → List ℕ → Wanted → Type 0
+IsSought resource fields query (wanted.Request request) = Searching resource query request × IsAccepted request fields
+IsSought resource fields query (wanted.Misspelled part) = IsMisspelledAt resource query (string_bytes part)
+IsSought resource fields query (wanted.Unreadable fault) = ⊥
+
 -- what GET comes to
 abbrev pub IsLooked : Resource → Fields → List ℕ → Wanted → Type 0
 IsLooked resource fields query (wanted.Request request) = Looking resource query request × IsAccepted request fields
@@ -316,6 +233,62 @@ IsWanted aim fields body (wanted.Misspelled part) =
 IsWanted aim fields body (wanted.Unreadable fault) =
     (aim.method ≡ Post) × IsUnreadableAt aim.resource fields.body_form body fault
 
+-- a UID of the path has more octets than a value may have
+abbrev pub HasLongUid : Resource → Type 0
+HasLongUid (Series name study) = value_most < length (percent_decode study.now)
+HasLongUid (Images name study series) =
+    (value_most < length (percent_decode study.now)) ⊎ (value_most < length (percent_decode series.now))
+HasLongUid resource = ⊥
+
+abbrev pub IsUnsearched : Resource → Type 0
+IsUnsearched (Unsearched name) = Unit {0}
+IsUnsearched resource = ⊥
+
+-- Why a resource is not searched: a UID of its path is too long, the search is not supported, or there is none.
+abbrev pub HasNoSearch : Resource → Refusal → Type 0
+HasNoSearch resource refusal.Request = HasLongUid resource
+HasNoSearch resource refusal.Unsupported = IsUnsearched resource
+HasNoSearch resource refusal.Path = (search : Search) → IsSearchAt resource search → ⊥
+HasNoSearch resource why = ⊥
+
+-- why no search is asked of it: there is none, or its answer is in no form that is accepted (RFC 9110 section 15.5.7)
+abbrev pub IsUnsought : Resource → Fields → Refusal → Type 0
+IsUnsought resource fields refusal.Accept =
+    ((search : Search) × IsSearchAt resource search) × IsFalse fields.accepts_json
+IsUnsought resource fields why = HasNoSearch resource why
+
+-- why GET asks nothing: no search is asked, or GET never asks anything there
+abbrev pub HasNoLook : Resource → Fields → Refusal → Type 0
+HasNoLook resource fields refusal.Path = (query : List ℕ) (request : Request) → Looking resource query request → ⊥
+HasNoLook resource fields why = IsUnsought resource fields why
+
+abbrev pub IsWorklist : Resource → Type 0
+IsWorklist (Worklist name) = Unit {0}
+IsWorklist resource = ⊥
+
+-- Why POST asks nothing: an entry comes in a form that is not read (RFC 9110 section 15.5.16), the path of a backup is
+-- not one of a file, or POST never asks anything there.
+abbrev pub HasNoPost : Resource → BodyForm → List ℕ → Refusal → Type 0
+HasNoPost resource by body refusal.MediaType = IsWorklist resource × (by ≡ form.Other)
+HasNoPost resource by body refusal.Request = (resource ≡ Backup) × IsFalse (is_file_path body)
+HasNoPost resource by body refusal.Path =
+    (form : BodyForm) (octets : List ℕ) (request : Request) → Posting resource form octets request → ⊥
+HasNoPost resource by body why = ⊥
+
+-- why DELETE asks nothing
+abbrev pub HasNoDelete : Resource → Refusal → Type 0
+HasNoDelete resource refusal.Path = (request : Request) → Deleting resource request → ⊥
+HasNoDelete resource why = ⊥
+
+-- why a method and a body ask nothing; the other methods never do
+abbrev pub HasNoWish : Method → Resource → Fields → List ℕ → Refusal → Type 0
+HasNoWish Get resource fields body why = HasNoLook resource fields why
+HasNoWish method.Head resource fields body why = HasNoLook resource fields why
+HasNoWish Post resource fields body why = HasNoPost resource fields.body_form body why
+HasNoWish Delete resource fields body why = HasNoDelete resource why
+HasNoWish Preflight resource fields body why = why ≡ refusal.Path
+HasNoWish Other resource fields body why = why ≡ refusal.Path
+
 -- whose key opens a request: that of the institution which it names, or the operator's
 abbrev pub owner_of_request : Request → List ℕ
 owner_of_request (ask.Search search) = search.institution
@@ -336,58 +309,33 @@ right_of_request (ask.Backup path) = right.Backup
 
 -- ---- who may ask
 
-abbrev pub has_no_slash : ℕ → Bool
-has_no_slash octet = not (octet == 47)
+-- its key opens what it aims at
+abbrev pub IsAimOpened : Guard → Head → Aim → Type 0
+IsAimOpened guard head aim = IsOpened guard.keys (owner_of aim.resource) (right_of aim.resource aim.method)
+    (option_copied head.fields.authorization)
 
--- A segment of a path names itself: decoded, it is not the dot segments, by which a path goes up, and it has no
--- slash, of which others may know nothing (RFC 3986 sections 3.3 and 6.2.2).
-abbrev pub is_plain : List ℕ → Bool
-is_plain segment = not (bytes_eq segment (codes ".") || bytes_eq segment (codes ".."))
-    && list_all has_no_slash segment
+-- why no key opens it
+abbrev pub IsAimShut : Guard → Head → Aim → Refusal → Type 0
+IsAimShut guard head aim why = IsShut guard.keys (owner_of aim.resource) (right_of aim.resource aim.method)
+    (option_copied head.fields.authorization) why
 
-abbrev pub is_plain_segment : List ℕ → Bool
-is_plain_segment segment = is_plain (percent_decode segment)
+-- Why a head is refused: it is not let in, or no key opens what it aims at.
+abbrev pub IsRefusedFor : Guard → Head → Refusal → Type 0
+IsRefusedFor guard head why = IsKeptOut guard head why
+    ⊎ ((aim : Aim) × IsLetIn guard head aim × IsFalse (is_free aim) × IsAimShut guard head aim why)
 
--- each segment of a path does
-abbrev pub is_plain_path : List ℕ → Bool
-is_plain_path path = list_all is_plain_segment (slice_split (λ octet. octet == 47) path)
-
--- A head is let in as it aims: for a host of the front and from no page of another origin to which it is not open, at a
--- path whose segments are plain, by a method. A head of HTTP/1.1 has a Host (RFC 9112 section 3.2).
-pub record IsLetIn (guard : Guard) (head : Head) (aim : Aim) : Type 0 where
-  pub host : List ℕ
-  pub text : List ℕ
-  pub path : List ℕ
-  pub named : IsTrue (head.is_old || is_some (option_copied head.fields.host))
-  pub visible : IsTrue (list_all is_visible head.target.now)
-  pub target : IsTarget head.target.now (option_copied head.fields.host) host text
-  pub split : IsPathAndQuery text path aim.query.now
-  pub plain : IsTrue (is_plain_path path)
-  pub at_resource : IsPath path aim.resource
-  pub by_method : IsMethodOf guard head aim.method
-  pub admitted : IsAdmitted guard host (openness_of aim.resource aim.method) head.fields
-
--- what everybody may see
-abbrev pub is_open : Resource → Bool
-is_open Page = true
-is_open Style = true
-is_open Script = true
-is_open Health = true
-is_open resource = false
-
--- Nothing is said of when a head is refused. Otherwise it is let in, and it only asks leave to look, or the resource is
--- open to all, or this entry's key opens it.
+-- The judgement of a head. Unless it is refused it is let in, and everybody may do what it aims at, or this entry's key
+-- opens that.
 abbrev pub IsJudged : Guard → Head → Judgement → Type 0
-IsJudged guard head (judgement.Refused refusal) = Unit {0}
-IsJudged guard head judgement.Open = (aim : Aim) × IsLetIn guard head aim
-    × IsTrue (is_leave_asked aim.method || is_open aim.resource)
-IsJudged guard head (judgement.Opened entry) = (aim : Aim) × IsLetIn guard head aim
+IsJudged guard head (judgement.Refused why) = IsRefusedFor guard head why
+IsJudged guard head (judgement.Open aim) = IsLetIn guard head aim × IsTrue (is_free aim)
+IsJudged guard head (judgement.Opened aim entry) = IsLetIn guard head aim × IsFalse (is_free aim)
     × IsOpenedBy guard.keys (owner_of aim.resource) (right_of aim.resource aim.method)
     (option_copied head.fields.authorization) entry.now
 
 -- the label of the key that let a head in, if it has one
 abbrev pub label_of : Judgement → List ℕ
-label_of (judgement.Opened entry) = entry.now.label
+label_of (judgement.Opened aim entry) = entry.now.label
 label_of judgement = []
 
 -- a part of a query asks for fuzzy matching (PS3.18 section 8.3.4.2)
@@ -413,7 +361,7 @@ wish_of fields query = record {
 pub record IsQuestion (guard : Guard) (request : HttpRequest) (question : Question) : Type 0 where
   pub aim : Aim
   pub let_in : IsLetIn guard request.head aim
-  pub opened : IsOpened guard.keys (owner_of aim.resource) (right_of aim.resource aim.method) (option_copied request.head.fields.authorization)
+  pub opened : IsAimOpened guard request.head aim
   pub asks : Asks aim.method aim.resource aim.query.now request.head.fields.body_form request.body.now question.asked
   pub wish : question.wish ≡ wish_of request.head.fields aim.query.now
   pub accepted : IsAccepted question.asked request.head.fields
@@ -422,7 +370,7 @@ pub record IsQuestion (guard : Guard) (request : HttpRequest) (question : Questi
 pub record IsMisspelled (guard : Guard) (request : HttpRequest) (word : List ℕ) : Type 0 where
   pub aim : Aim
   pub let_in : IsLetIn guard request.head aim
-  pub opened : IsOpened guard.keys (owner_of aim.resource) (right_of aim.resource aim.method) (option_copied request.head.fields.authorization)
+  pub opened : IsAimOpened guard request.head aim
   pub by_get : IsGet aim.method
   pub at : IsMisspelledAt aim.resource aim.query.now word
 
@@ -430,9 +378,17 @@ pub record IsMisspelled (guard : Guard) (request : HttpRequest) (word : List ℕ
 pub record IsUnreadable (guard : Guard) (request : HttpRequest) (fault : JsonFault) : Type 0 where
   pub aim : Aim
   pub let_in : IsLetIn guard request.head aim
-  pub opened : IsOpened guard.keys (owner_of aim.resource) (right_of aim.resource aim.method) (option_copied request.head.fields.authorization)
+  pub opened : IsAimOpened guard request.head aim
   pub by_post : aim.method ≡ Post
   pub at : IsUnreadableAt aim.resource request.head.fields.body_form request.body.now fault
+
+-- It is let in, a key opens what not everybody may do, and it asks nothing.
+pub record AsksNothing (guard : Guard) (request : HttpRequest) (why : Refusal) : Type 0 where
+  pub aim : Aim
+  pub let_in : IsLetIn guard request.head aim
+  pub closed : IsFalse (is_free aim)
+  pub opened : IsAimOpened guard request.head aim
+  pub by : HasNoWish aim.method aim.resource request.head.fields request.body.now why
 
 -- where a document of the page stands
 abbrev pub document_resource : Document → Resource
@@ -440,10 +396,21 @@ document_resource document.Page = Page
 document_resource document.Style = Style
 document_resource document.Script = Script
 
+-- what answers a request that aims at what everybody may do
+abbrev pub IsFreeAnswer : Aim → ParsedRequest → Type 0
+IsFreeAnswer aim (asked.Document document) = aim.resource ≡ document_resource document
+IsFreeAnswer aim asked.Health = aim.resource ≡ Health
+IsFreeAnswer aim asked.Preflight = IsTrue (is_leave_asked aim.method)
+IsFreeAnswer aim other = ⊥
+
+-- why a request is refused: its head is, or it asks nothing
+abbrev pub IsUnanswered : Guard → HttpRequest → Refusal → Type 0
+IsUnanswered guard request why = IsRefusedFor guard request.head why ⊎ AsksNothing guard request why
+
 -- what is done for a request of HTTP
 abbrev pub IsAsked : Guard → HttpRequest → ParsedRequest → Type 0
 IsAsked guard request (asked.Question question) = IsQuestion guard request question
-IsAsked guard request (asked.Refused refusal) = Unit {0}
+IsAsked guard request (asked.Refused why) = IsUnanswered guard request why
 IsAsked guard request (asked.Misspelled word) = IsMisspelled guard request (string_bytes word)
 IsAsked guard request (asked.Unreadable fault) = IsUnreadable guard request fault
 IsAsked guard request (asked.Document document) =
@@ -474,13 +441,11 @@ IsLook request = ⊥
 -- a page of another site sent a head: its Origin is not that of the host to which it came
 abbrev pub IsForeign : Head → Type 0
 IsForeign head = (host text : List ℕ) → IsTarget head.target.now (option_copied head.fields.host) host text
-    → IsSameOrigin host (option_copied head.fields.origin) → ⊥
+    → IsFalse (is_same_origin host (option_copied head.fields.origin))
 
 -- a request of HTTP has this path
 abbrev pub IsAtPath : HttpRequest → List ℕ → Type 0
-IsAtPath request path = (host : List ℕ) × (text : List ℕ) × (query : List ℕ)
-    × IsTarget request.head.target.now (option_copied request.head.fields.host) host text
-    × IsPathAndQuery text path query
+IsAtPath request path = (host : List ℕ) × (query : List ℕ) × IsAt request.head host path query
 
 -- a request of HTTP of this method at this path
 abbrev pub IsCall : HttpRequest → List ℕ → List ℕ → Type 0

@@ -1,11 +1,11 @@
 -- Requests of HTTP, as they stand in the octets of a connection (RFC 9112).
-use Rattle.std.specs.Prelude.{◌≡◌, ℕ, ◌+◌, ◌<◌, ◌≤◌, ◌++◌, ◌==◌, ◌||◌, ◌&&◌, not, if◌then◌else◌, Bool, true, false, List, [], ◌∷◌, length, map, filter, drop, codes, Option, Some, None, option_to_list, option_copied}
-use Rattle.std.specs.Char.{to_ascii_lowercase}
-use Rattle.std.specs.List.{list_any, slice_split}
+use Rattle.std.specs.Prelude.{◌≡◌, ◌⊎◌, ℕ, ◌+◌, ◌<◌, ◌≤◌, ◌++◌, ◌==◌, ◌||◌, ◌&&◌, not, if◌then◌else◌, Bool, true, false, IsTrue, IsFalse, List, [], ◌∷◌, length, map, filter, drop, codes, Option, Some, None, option_to_list, option_copied}
+use Rattle.std.specs.Char.{is_ascii_digit, to_ascii_lowercase}
+use Rattle.std.specs.List.{list_all, list_any, slice_split}
 use Rattle.std.specs.Str.{bytes_eq}
 use Rattle.std.specs.Str.Parse.{IsNumeral, digits_value}
-use Rattle.httparse.specs.Grammar.{RequestHead, ReadsRequest, HasNoRequest, print_request}
-use Rattle.httparse.specs.Spans.{name_and_value}
+use Rattle.httparse.specs.Grammar.{RequestHead, ReadsRequest, HasNoRequest, NeverHasRequest, print_request}
+use Rattle.httparse.specs.Spans.{RequestExceeds, name_and_value}
 use Rattle.dq_web.specs.declared.cutting.BodyForm.{BodyForm}
 use Rattle.dq_web.specs.declared.cutting.BodyForm.TheVariants as form
 use Rattle.dq_web.specs.declared.cutting.Cut.{Cut}
@@ -15,6 +15,8 @@ use Rattle.dq_web.specs.declared.cutting.Head.{Head}
 use Rattle.dq_web.specs.declared.cutting.HttpRequest.{HttpRequest}
 use Rattle.dq_web.specs.declared.cutting.Test.{Test}
 use Rattle.dq_web.specs.declared.cutting.Test.TheVariants as test
+use Rattle.dq_web.specs.declared.refusal.Refusal.{Refusal}
+use Rattle.dq_web.specs.declared.refusal.Refusal.TheVariants as refusal
 
 -- letters of either case are one in the name of a field
 abbrev pub lower_case : List ℕ → List ℕ
@@ -139,12 +141,54 @@ pub record IsRequest (octets : List ℕ) (request : HttpRequest) : Type 0 where
   pub whole : length request.body.now ≡ request.head.body_length
   pub extent : request.extent ≡ request.head.extent + length request.body.now
 
+-- ---- refusals
+
+-- the fields that a head has once at most
+abbrev pub is_sole : List ℕ → Bool
+is_sole name = list_any (bytes_eq name) (codes "host" ∷ codes "origin" ∷ codes "sec-fetch-site" ∷ codes "sec-fetch-dest"
+    ∷ codes "access-control-request-method" ∷ codes "authorization" ∷ codes "expect" ∷ codes "content-length"
+    ∷ codes "transfer-encoding" ∷ [])
+
+-- it has one of them more often
+abbrev pub HasRepeated : List (List ℕ × List ℕ) → Type 0
+HasRepeated pairs = (name : List ℕ) × IsTrue (is_sole name) × (1 < length (values_named name pairs))
+
+-- a decimal number (RFC 9110 section 8.6)
+abbrev pub is_numeral : List ℕ → Bool
+is_numeral text = not (length text == 0) && list_all is_ascii_digit text
+
+-- why a Content-Length is refused: it is not a number, or one of more than 1 MiB
+abbrev pub IsBadLength : List ℕ → Refusal → Type 0
+IsBadLength text refusal.Request = IsFalse (is_numeral text)
+IsBadLength text refusal.Length = IsTrue (is_numeral text) × (0x100000 < digits_value 10 text)
+IsBadLength text why = ⊥
+
+-- Why the fields of a head are refused: one is repeated that may not be, the body comes in a coding, or its length is bad.
+abbrev pub AreBadFields : List (List ℕ × List ℕ) → Refusal → Type 0
+AreBadFields pairs why = ((why ≡ refusal.Request) × HasRepeated pairs)
+    ⊎ (((why ≡ refusal.Coding)
+    × ((coding : List ℕ) × IsSole (codes "transfer-encoding") pairs (Some coding)))
+    ⊎ ((text : List ℕ) × IsSole (codes "content-length") pairs (Some text) × IsBadLength text why))
+
+-- Why octets are refused that do not begin with a whole head of at most 64 fields. More than 16 KiB came without a whole
+-- head, or more than 64 fields; or they never begin with a head, whatever follows. Which octet is wrong is not said.
+abbrev pub IsBadFront : List ℕ → Refusal → Type 0
+IsBadFront octets refusal.Head = ((16384 < length octets) × HasNoRequest octets) ⊎ RequestExceeds 64 octets
+IsBadFront octets refusal.Request = NeverHasRequest octets
+IsBadFront octets why = ⊥
+
+-- octets begin with a head of the grammar, and it has more than 16 KiB or bad fields
+abbrev pub HasBadHead : List ℕ → Refusal → Type 0
+HasBadHead octets why = (parts : RequestHead) × (rest : List ℕ) × ReadsRequest octets parts rest
+    × (((why ≡ refusal.Head) × (16384 < length (print_request parts)))
+    ⊎ AreBadFields (map name_and_value parts.fields) why)
+
 -- The cut of octets. No whole head is there, in at most 16 KiB; or a head whose body is not whole; or a request.
 abbrev pub IsCutOff : List ℕ → Cut → Type 0
 IsCutOff octets Unfinished = (length octets ≤ 16384) × HasNoRequest octets
 IsCutOff octets (Begun head) = IsHead octets head × (length octets < head.extent + head.body_length)
 IsCutOff octets (Whole request) = IsRequest octets request
-IsCutOff octets (Refused refusal) = Unit {0}
+IsCutOff octets (Refused why) = IsBadFront octets why ⊎ HasBadHead octets why
 
 -- the sender of a head waits for leave to send the body (RFC 9110 section 10.1.1)
 abbrev pub is_expected : Option (List ℕ) → Bool

@@ -1,8 +1,10 @@
 //! Requests, cut off the octets of a connection (RFC 9112).
-ghost use Rattle.std.specs.Prelude.{◌≡◌, ◌≤◌, ◌||◌, ◌==◌, length, map, codes, not, All, IfOk, option_copied};
+ghost use Rattle.std.specs.Prelude.{◌≡◌, ◌<◌, ◌≤◌, ◌||◌, ◌==◌, ℕ, List, Some, length, map, codes, not, All, IfOk, IfErr, MatchResult, option_copied};
+ghost use Rattle.std.specs.Char.{is_ascii_digit};
+ghost use Rattle.std.specs.List.{list_all};
 ghost use Rattle.httparse.specs.Spans.{IsHeaderWithin, IsRequestWithin, IsRequestOf, header_bytes};
 ghost use Rattle.dq_web.specs.declared.cutting.Test.TheVariants as test;
-ghost use Rattle.dq_web.specs.Requests.{is_named, IsSole, IsLast, AreFields, IsBodyLength, IsHead, IsCutOff, IsContentLength, is_between, is_dicom_json_range, is_json_range, is_dicom_type, passes_word, passes, any_passes, body_form, is_expecting, is_of_head};
+ghost use Rattle.dq_web.specs.Requests.{is_named, values_named, HasRepeated, is_numeral, IsBadLength, HasBadHead, IsSole, IsLast, AreFields, IsBodyLength, IsHead, IsCutOff, IsContentLength, is_between, is_dicom_json_range, is_json_range, is_dicom_type, passes_word, passes, any_passes, body_form, is_expecting, is_of_head};
 
 use crate::refusal::Refusal;
 use httparse::spans::{EMPTY_HEADER_SPAN, HeaderSpan, RequestSpans, parse_request};
@@ -118,8 +120,10 @@ fn sole_value<'a>(
     name: &[u8],
 ) -> Result<Option<&'a [u8]>, Refusal>
     requires { All (IsHeaderWithin (length octets.now)) headers.now }
-    ensures { IfOk result (λ found. IsSole name.now (map (header_bytes octets.now) headers.now)
-        (option_copied found)) }
+    ensures { MatchResult result
+        (λ found. IsSole name.now (map (header_bytes octets.now) headers.now) (option_copied found))
+        (λ why. (why ≡ Refusal.Request)
+        × (1 < length (values_named name.now (map (header_bytes octets.now) headers.now)))) }
 {
     let mut found = None;
     for header in headers {
@@ -249,7 +253,9 @@ fn body_form(octets: &[u8], headers: &[HeaderSpan]) -> BodyForm
 /// The values of the fields that count.
 fn fields_of<'a>(octets: &'a [u8], headers: &[HeaderSpan]) -> Result<Fields<'a>, Refusal>
     requires { All (IsHeaderWithin (length octets.now)) headers.now }
-    ensures { IfOk result (AreFields (map (header_bytes octets.now) headers.now)) }
+    ensures { MatchResult result (AreFields (map (header_bytes octets.now) headers.now))
+        (λ why. (why ≡ Refusal.Request)
+        × HasRepeated (map (header_bytes octets.now) headers.now)) }
 {
     let host = sole_value(octets, headers, b"host")?;
     let origin = sole_value(octets, headers, b"origin")?;
@@ -279,25 +285,50 @@ fn fields_of<'a>(octets: &'a [u8], headers: &[HeaderSpan]) -> Result<Fields<'a>,
     })
 }
 
+pub(crate) fn are_digits(text: &[u8]) -> bool
+    ensures { result ≡ list_all is_ascii_digit text.now }
+{
+    text.iter().all(|octet| octet.is_ascii_digit())
+}
+
+fn is_numeral(text: &[u8]) -> bool
+    ensures { result ≡ is_numeral text.now }
+{
+    !text.is_empty() && are_digits(text)
+}
+
+/// A length of a body, unless it is over what a body may have.
+fn within_most(length: usize) -> Result<usize, Refusal>
+    ensures { MatchResult result (λ it. (it ≡ length) × (it ≤ 0x100000))
+        (λ why. (why ≡ Refusal.Length) × (0x100000 < length)) }
+{
+    if length <= BODY_MOST {
+        Ok(length)
+    } else {
+        Err(Refusal::Length)
+    }
+}
+
 /// The number of octets that a Content-Length says (RFC 9110 section 8.6).
 fn length_in(value: &[u8]) -> Result<usize, Refusal>
-    ensures { IfOk result (IsContentLength value.now) }
+    ensures { MatchResult result (IsContentLength value.now) (IsBadLength value.now) }
 {
-    if value.is_empty() || !value.iter().all(|octet| octet.is_ascii_digit()) {
+    if !is_numeral(value) {
         return Err(Refusal::Request);
     }
     let Ok(text) = str::from_utf8(value) else {
         return Err(Refusal::Request);
     };
     match text.parse::<usize>() {
-        Ok(length) if length <= BODY_MOST => Ok(length),
-        _ => Err(Refusal::Length),
+        Ok(length) => within_most(length),
+        Err(_) => Err(Refusal::Length),
     }
 }
 
 /// The number of octets of the body. A head without a Content-Length has none.
 fn body_length(value: Option<&[u8]>) -> Result<usize, Refusal>
-    ensures { IfOk result (IsBodyLength (option_copied value.entry)) }
+    ensures { MatchResult result (IsBodyLength (option_copied value.entry))
+        (λ why. (text : List ℕ) × (option_copied value.entry ≡ Some text) × IsBadLength text why) }
 {
     match value {
         Some(value) => length_in(value),
@@ -322,6 +353,7 @@ fn head_at<'a>(
     requires bound { spans.len ≤ 16384 }
     ensures head { IfOk result (IsHead octets.now) }
     ensures extent { IfOk result (λ head. head.extent ≡ spans.len) }
+    ensures bad { IfErr result (HasBadHead octets.now) }
 {
     let fields = fields_of(octets, &headers[..spans.headers])?;
     if fields.transfer_encoding.is_some() {
@@ -349,9 +381,11 @@ fn request_at<'a>(
 ) -> Result<Cut<'a>, Refusal>
     requires within { IsRequestWithin octets.now headers.now spans }
     requires head { IsRequestOf octets.now headers.now spans }
-    requires bound { spans.len ≤ 16384 }
-    ensures { IfOk result (IsCutOff octets.now) }
+    ensures { MatchResult result (IsCutOff octets.now) (HasBadHead octets.now) }
 {
+    if spans.len > HEAD_MOST {
+        return Err(Refusal::Head);
+    }
     let head = head_at(octets, headers, spans)?;
     let (_, rest) = octets.split_at(spans.len);
     match rest.split_at_checked(head.body_length) {
@@ -372,14 +406,18 @@ pub fn cut_off(octets: &[u8]) -> Cut<'_>
 {
     let mut headers = [EMPTY_HEADER_SPAN; MOST_FIELDS];
     match parse_request(octets, &mut headers) {
-        Ok(Parsed::Complete(spans)) if spans.len <= HEAD_MOST => {
-            match request_at(octets, &headers, spans) {
-                Ok(cut) => cut,
-                Err(refusal) => Cut::Refused(refusal),
+        Ok(Parsed::Complete(spans)) => match request_at(octets, &headers, spans) {
+            Ok(cut) => cut,
+            Err(refusal) => Cut::Refused(refusal),
+        },
+        Ok(Parsed::Partial) => {
+            if octets.len() <= HEAD_MOST {
+                Cut::Unfinished
+            } else {
+                Cut::Refused(Refusal::Head)
             }
         }
-        Ok(Parsed::Partial) if octets.len() <= HEAD_MOST => Cut::Unfinished,
-        Ok(_) | Err(Error::TooManyHeaders) => Cut::Refused(Refusal::Head),
+        Err(Error::TooManyHeaders) => Cut::Refused(Refusal::Head),
         Err(_) => Cut::Refused(Refusal::Request),
     }
 }

@@ -1,18 +1,17 @@
 //! Whom the front admits: by host, by origin and by key.
-ghost use Rattle.std.specs.Prelude.{◌≡◌, ◌++◌, ◌&&◌, codes, Some, IsTrue, IfOk, IfErr, OnOk, IfSome, option_copied};
-ghost use Rattle.std.specs.Char.{is_ascii_digit};
-ghost use Rattle.std.specs.List.{list_all};
-ghost use Rattle.dq_web.specs.Guards.{IsAt, IsKnownHost, IsOrigin, IsSameOrigin, IsSameSite, IsAllowedSite, IsOfSite, IsAdmitted, is_to_viewer, is_to_tab, is_of_viewer, viewer_of, is_look, is_preflight, IsProxy, TellsKey, IsOpenedBy, IsOpened};
-ghost use Rattle.dq_web.specs.Requests.{is_named};
+ghost use Rattle.std.specs.Prelude.{◌≡◌, IsTrue, IfOk, IfErr, OnOk, IfSome, MatchResult, option_copied};
+ghost use Rattle.dq_web.specs.Guards.{is_port, is_at, is_own_host, is_known_host, is_origin, is_same_origin, is_same_site, is_document, is_allowed_site, is_of_site, may_send, IsAdmitted, IsTurnedAway, is_to_viewer, is_to_tab, is_of_viewer, viewer_of, is_look, is_preflight, IsProxy, key_told, IsOpenedBy, IsOpened, IsShut};
 
-use crate::cutting::{Fields, is_named};
+use crate::cutting::{Fields, are_digits, is_named};
 use crate::forwarding::forwarded_address;
-use crate::keys::{KeyEntry, Keys, Right, at_space};
+use crate::keys::{KeyEntry, Keys, Right};
 use crate::refusal::Refusal;
-use crate::resource::behind;
 use dq_list::Listed;
 use std::alloc::{AllocError, Global};
 use std::net::{IpAddr, SocketAddr};
+
+/// The scheme of an Authorization that tells a key, and the space behind it.
+const SCHEME: &[u8] = b"bearer ";
 
 /// The keys that the front admits; a host of its own that it admits beside those of the loopback; the
 /// origin of a viewer, whose pages may read what is searched; and the address of a proxy, which is
@@ -50,92 +49,58 @@ impl Openness {
     }
 }
 
-fn are_digits(text: &[u8]) -> bool
-    ensures { result ≡ list_all is_ascii_digit text.now }
+/// Whether a text behind a host is empty, or a colon and the digits of a port.
+fn is_port(text: &[u8]) -> bool
+    ensures { result ≡ is_port text.now }
 {
-    text.iter().all(|octet| octet.is_ascii_digit())
-}
-
-fn is_same(text: &str, other: &str) -> bool
-    ensures { result ≡ is_named text.now other.now }
-{
-    is_named(text.as_bytes(), other.as_bytes())
-}
-
-/// Returns the part of a text before a place, and the part after it.
-fn parts_at(text: &str, at: usize) -> Option<(&str, &str)>
-    ensures { IfSome result (λ parts. text.now ≡ parts.0.now ++ parts.1.now) }
-{
-    text.split_at_checked(at)
+    match text {
+        [] => true,
+        [octet, digits @ ..] => *octet == b':' && are_digits(digits),
+    }
 }
 
 /// Whether a Host is this one, in letters of either case, with or without a port.
-fn is_at(value: &str, host: &str) -> bool
-    ensures { IsTrue result → IsAt host.now value.now }
+fn is_at(value: &[u8], host: &[u8]) -> bool
+    ensures { result ≡ is_at host.now value.now }
 {
-    let Some((name, rest)) = parts_at(value, host.len()) else {
-        return false;
-    };
-    if !is_same(name, host) {
-        return false;
-    }
-    if rest.is_empty() {
-        return true;
-    }
-    match behind(rest, ":") {
-        Some(port) => are_digits(port.as_bytes()),
+    match value.split_at_checked(host.len()) {
+        Some((name, rest)) => is_named(name, host) && is_port(rest),
         None => false,
     }
 }
 
 /// Whether an origin is a host, by this scheme.
-fn is_origin(origin: &str, scheme: &str, host: &str) -> bool
-    ensures { IsTrue result → IsOrigin scheme.now host.now origin.now }
+fn is_origin(origin: &[u8], scheme: &[u8], host: &[u8]) -> bool
+    ensures { result ≡ is_origin scheme.now host.now origin.now }
 {
-    match behind(origin, scheme) {
-        Some(rest) => is_same(rest, host),
+    match origin.strip_prefix(scheme) {
+        Some(rest) => is_named(rest, host),
         None => false,
     }
 }
 
-/// Refuses a request that a page of another origin sent.
-fn check_origin(host: &str, value: Option<&[u8]>) -> Result<(), Refusal>
-    ensures { OnOk result (IsSameOrigin host.now (option_copied value.entry)) }
+/// Whether an Origin, if there is one, is that of a page of the same host.
+fn is_same_origin(host: &[u8], value: Option<&[u8]>) -> bool
+    ensures { result ≡ is_same_origin host.now (option_copied value.entry) }
 {
-    let Some(octets) = value else {
-        return Ok(());
-    };
-    let Ok(origin) = str::from_utf8(octets) else {
-        return Err(Refusal::Origin);
-    };
-    if is_origin(origin, "http://", host) {
-        return Ok(());
+    match value {
+        Some(origin) => is_origin(origin, b"http://", host) || is_origin(origin, b"https://", host),
+        None => true,
     }
-    if is_origin(origin, "https://", host) {
-        return Ok(());
-    }
-    Err(Refusal::Origin)
 }
 
-/// Refuses a request that a browser says another site made.
-fn check_site(value: Option<&[u8]>) -> Result<(), Refusal>
-    ensures { OnOk result (IsSameSite (option_copied value.entry)) }
+/// Whether a browser says that a page of the front made a request, or none.
+fn is_same_site(value: Option<&[u8]>) -> bool
+    ensures { result ≡ is_same_site (option_copied value.entry) }
 {
-    let Some(octets) = value else {
-        return Ok(());
-    };
-    let Ok(site) = str::from_utf8(octets) else {
-        return Err(Refusal::Origin);
-    };
-    match site {
-        "same-origin" => Ok(()),
-        "none" => Ok(()),
-        _ => Err(Refusal::Origin),
+    match value {
+        Some(site) => site == b"same-origin".as_slice() || site == b"none".as_slice(),
+        None => true,
     }
 }
 
 fn is_document(value: Option<&[u8]>) -> bool
-    ensures { IsTrue result → option_copied value.entry ≡ Some (codes "document") }
+    ensures { result ≡ is_document (option_copied value.entry) }
 {
     match value {
         Some(octets) => octets == b"document".as_slice(),
@@ -143,22 +108,18 @@ fn is_document(value: Option<&[u8]>) -> bool
     }
 }
 
-/// Refuses a request that a browser says another site made, unless it opens the page in a tab.
-fn check_opening(is_page: bool, fields: &Fields<'_>) -> Result<(), Refusal>
-    ensures { OnOk result (IsAllowedSite is_page fields.now) }
+/// Whether no other site made a request, unless it opens the page in a tab.
+fn is_allowed_site(is_page: bool, fields: &Fields<'_>) -> bool
+    ensures { result ≡ is_allowed_site is_page fields.now }
 {
-    if is_page && is_document(fields.fetch_dest) {
-        return Ok(());
-    }
-    check_site(fields.fetch_site)
+    (is_page && is_document(fields.fetch_dest)) || is_same_site(fields.fetch_site)
 }
 
-/// Refuses a request that a page of another site sent, unless it opens the page in a tab.
-fn check_sender(host: &str, is_page: bool, fields: &Fields<'_>) -> Result<(), Refusal>
-    ensures { OnOk result (IsOfSite host.now is_page fields.now) }
+/// Whether no page of another site sent a request, unless it opens the page in a tab.
+fn is_of_site(host: &[u8], is_page: bool, fields: &Fields<'_>) -> bool
+    ensures { result ≡ is_of_site host.now is_page fields.now }
 {
-    check_origin(host, fields.origin)?;
-    check_opening(is_page, fields)
+    is_same_origin(host, fields.origin) && is_allowed_site(is_page, fields)
 }
 
 fn is_look(method: Option<&[u8]>) -> bool
@@ -172,44 +133,40 @@ fn is_look(method: Option<&[u8]>) -> bool
 
 /// The key that an Authorization tells (RFC 6750 section 2.1).
 fn key_in(value: Option<&[u8]>) -> Option<&[u8]>
-    ensures { IfSome result (λ key. TellsKey (option_copied value.entry) key.now) }
+    ensures { option_copied result ≡ key_told (option_copied value.entry) }
 {
     let Some(octets) = value else {
         return None;
     };
-    let Ok(text) = str::from_utf8(octets) else {
+    let Some((scheme, rest)) = octets.split_at_checked(SCHEME.len()) else {
         return None;
     };
-    let Some((scheme, rest)) = at_space(text) else {
+    if !is_named(scheme, SCHEME) {
         return None;
-    };
-    if is_same(scheme, "bearer") {
-        Some(rest.trim_start().as_bytes())
-    } else {
-        None
+    }
+    match str::from_utf8(rest) {
+        Ok(rest) => Some(rest.trim_start().as_bytes()),
+        Err(_) => None,
     }
 }
 
 impl Guard {
-    fn is_known(&self, host: &str) -> bool
-        ensures { IsTrue result → IsKnownHost self.now.host host.now }
+    fn is_own(&self, host: &[u8]) -> bool
+        ensures { result ≡ is_own_host self.now.host host.now }
     {
-        if is_at(host, "127.0.0.1") {
-            return true;
+        match &self.host {
+            Some(own) => is_at(host, own.as_slice()),
+            None => false,
         }
-        if is_at(host, "localhost") {
-            return true;
-        }
-        if is_at(host, "[::1]") {
-            return true;
-        }
-        let Some(own) = &self.host else {
-            return false;
-        };
-        match str::from_utf8(own.as_slice()) {
-            Ok(own) => is_at(host, own),
-            Err(_) => false,
-        }
+    }
+
+    fn is_known(&self, host: &[u8]) -> bool
+        ensures { result ≡ is_known_host self.now.host host.now }
+    {
+        is_at(host, b"127.0.0.1")
+            || is_at(host, b"localhost")
+            || is_at(host, b"[::1]")
+            || self.is_own(host)
     }
 
     /// Whether a page of the viewer's origin sent a request, by the octets of its Origin.
@@ -267,26 +224,33 @@ impl Guard {
         }
     }
 
+    /// Whether no page of another origin sent a request, but for one to which what it aims at is open.
+    fn may_send(&self, host: &[u8], openness: Openness, fields: &Fields<'_>) -> bool
+        ensures { result ≡ may_send self.now host.now openness fields.now }
+    {
+        (openness.is_to_viewer() && self.is_of_viewer(fields.origin))
+            || is_of_site(host, openness.is_to_tab(), fields)
+    }
+
     /// Refuses a request to another host, or of a page of another origin to which what it aims at is
     /// not open.
     pub(crate) fn admit(
         &self,
-        host: &str,
+        host: &[u8],
         openness: Openness,
         fields: &Fields<'_>,
     ) -> Result<(), Refusal>
-        ensures admitted { OnOk result (IsAdmitted self.now host.now openness fields.now) }
-        ensures viewer { IsTrue (is_to_viewer openness
-            && is_of_viewer self.now.viewer (option_copied fields.now.origin))
-            → IfErr result (λ refusal. refusal ≡ Refusal.Host) }
+        ensures { MatchResult result (λ _. IsAdmitted self.now host.now openness fields.now)
+            (IsTurnedAway self.now host.now openness fields.now) }
     {
         if !self.is_known(host) {
             return Err(Refusal::Host);
         }
-        if openness.is_to_viewer() && self.is_of_viewer(fields.origin) {
-            return Ok(());
+        if self.may_send(host, openness, fields) {
+            Ok(())
+        } else {
+            Err(Refusal::Origin)
         }
-        check_sender(host, openness.is_to_tab(), fields)
     }
 
     /// The entry whose key opens the name with a right. A request without such a key is refused.
@@ -299,6 +263,8 @@ impl Guard {
         ensures by { IfOk result (λ entry. IsOpenedBy self.now.keys name.now right
             (option_copied authorization.entry) entry.now) }
         ensures opened { OnOk result (IsOpened self.now.keys name.now right
+            (option_copied authorization.entry)) }
+        ensures shut { IfErr result (IsShut self.now.keys name.now right
             (option_copied authorization.entry)) }
     {
         match key_in(authorization) {

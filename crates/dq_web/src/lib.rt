@@ -2,6 +2,7 @@
 //! sockets, no rows.
 #![tactic(auto)]
 
+mod aim;
 mod counters;
 mod cutting;
 mod forwarding;
@@ -17,13 +18,12 @@ mod resource;
 mod responses;
 mod status;
 
+pub use aim::{Aim, Method, kind_at};
 pub use counters::{Class, Counters, Operations, RequestCounts, Service, Turns};
 pub use cutting::{BODY_MOST, BodyForm, Cut, Fields, HEAD_MOST, Head, HttpRequest, cut_off};
 pub use guard::{Guard, Openness};
 pub use keys::{KeyEntry, Keys, KeysFault, OPERATOR, Right};
-pub use parsed_request::{
-    Aim, Document, Judgement, Method, ParsedRequest, Question, Wish, ask, judge, kind_at,
-};
+pub use parsed_request::{Document, Judgement, ParsedRequest, Question, Wish, ask, judge};
 pub use refusal::{Allowed, Refusal};
 pub use replies::{Framing, Written};
 pub use resource::{Resource, ResourceKind, resource_of};

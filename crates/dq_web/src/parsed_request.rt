@@ -1,21 +1,23 @@
 //! The questions that HTTP requests ask of the server.
-ghost use Rattle.std.specs.Prelude.{◌≡◌, ◌==◌, ◌++◌, ◌∷◌, [], ◌||◌, codes, Some, IsTrue, IfOk, OnOk, MatchOption, MatchBool, is_some, option_copied};
+ghost use Rattle.std.specs.Prelude.{◌≡◌, ◌⊎◌, ◌==◌, ◌<◌, ◌++◌, ◌∷◌, [], length, IsTrue, IsFalse, IfOk, IfErr, OnOk, MatchResult, MatchOption, MatchBool, option_copied};
 ghost use Rattle.std.specs.List.{list_all, list_any, starts_with};
-ghost use Rattle.std.specs.Str.{bytes_eq};
 ghost use Rattle.percent_encoding.specs.Percent.{percent_decode};
-ghost use Rattle.dq_web.specs.Guards.{IsOpenedBy, IsOpened};
+ghost use Rattle.dq_web.specs.Guards.{IsOpenedBy};
+ghost use Rattle.dq_web.specs.declared.guard.Guard.{Guard};
 ghost use Rattle.dq_request.specs.declared.request.Request.TheVariants as ask;
-ghost use Rattle.dq_request.specs.Searches.{TakesWords, StopsAt, name_in};
+ghost use Rattle.dq_request.specs.Searches.{TakesWords, StopsAt, name_in, value_most};
 ghost use Rattle.dq_web.specs.declared.cutting.BodyForm.TheVariants as form;
 ghost use Rattle.dq_web.specs.declared.parsed_request.Wanted.TheVariants as wanted;
-ghost use Rattle.dq_web.specs.ParsedRequests.{is_visible, is_printable, is_silent, is_attribute, is_unknown, is_left_out, parts_of, words_among, words_in, uid_key, hundred_of, series_of, images_of, IsSearchAt, is_searched, only_looks, openness_of, is_leave_asked, owner_of, right_of, IsPathAndQuery, IsTarget, IsMethodOf, IsLooked, IsBackup, IsEntryPosted, IsPosted, Deleting, IsWanted, has_no_slash, is_plain_segment, is_plain_path, is_page, IsLetIn, IsJudged, label_of, is_fuzzy, passes_part, wish_of, IsAsked, IsResourceAt, IsKindAt};
+ghost use Rattle.dq_web.specs.Aims.{owner_of, right_of, is_free, IsLetIn, IsUnasked};
+ghost use Rattle.dq_web.specs.ParsedRequests.{is_printable, is_silent, is_attribute, is_unknown, is_left_out, parts_of, words_among, words_in, uid_key, hundred_of, series_of, images_of, IsSearchAt, HasNoSearch, IsSought, IsUnsought, IsLooked, HasNoLook, is_file_path, IsBackup, IsEntryPosted, IsPosted, HasNoPost, Deleting, HasNoDelete, IsWanted, HasNoWish, IsFreeAnswer, IsAimOpened, IsAimShut, IsRefusedFor, IsJudged, label_of, is_fuzzy, passes_part, wish_of, AsksNothing, IsAsked};
 
+use crate::aim::{Aim, Method, Unasked, is_free, let_in, owner_of, right_of};
 use crate::cutting::{BodyForm, Fields, Head, HttpRequest};
-use crate::guard::{Guard, Openness};
-use crate::keys::{KeyEntry, OPERATOR, Right};
-use crate::refusal::{Allowed, Refusal};
+use crate::guard::Guard;
+use crate::keys::KeyEntry;
+use crate::refusal::Refusal;
 use crate::replies::Framing;
-use crate::resource::{Resource, ResourceKind, at_slash, behind, kind_of, resource_of};
+use crate::resource::{Resource, ResourceKind};
 use dq_dataset::PackedDataSet;
 use dq_json::{JsonFault, data_set_of, tag_named};
 use dq_list::Listed;
@@ -70,42 +72,14 @@ pub enum ParsedRequest {
     Question(Question),
 }
 
-/// The method of a request, as far as it counts here.
-#[derive(Clone, Copy, PartialEq, Eq)]
-pub enum Method {
-    Get,
-    Head,
-    Post,
-    Delete,
-    /// OPTIONS, by which leave is asked for a page of the viewer's origin to look at something.
-    Preflight,
-    Other,
-}
-
-/// The aim of a head: a resource, a method, and the query after the path.
-#[derive(Clone, Copy)]
-pub struct Aim<'a> {
-    pub resource: Resource<'a>,
-    pub method: Method,
-    pub query: &'a str,
-}
-
 /// The judgement of a head.
 #[derive(Clone, Copy)]
 pub enum Judgement<'a> {
     Refused(Refusal),
     /// Everybody may see what it aims at, or it asks leave to look and nothing else.
-    Open,
+    Open { aim: Aim<'a> },
     /// The key of this entry opens what it aims at.
-    Opened(&'a KeyEntry),
-}
-
-impl Method {
-    fn is_preflight(self) -> bool
-        ensures { result ≡ is_leave_asked self }
-    {
-        matches!(self, Method::Preflight)
-    }
+    Opened { aim: Aim<'a>, entry: &'a KeyEntry },
 }
 
 /// The result of reading a path, a method, a query and a body.
@@ -127,36 +101,6 @@ enum PartTest {
     Unknown,
 }
 
-/// Why nothing is asked.
-enum Unasked {
-    Refused(Refusal),
-    NoMemory,
-}
-
-impl From<AllocError> for Unasked {
-    fn from(_error: AllocError) -> Unasked {
-        Unasked::NoMemory
-    }
-}
-
-impl From<Refusal> for Unasked {
-    fn from(refusal: Refusal) -> Unasked {
-        Unasked::Refused(refusal)
-    }
-}
-
-fn is_visible(octet: u8) -> bool
-    ensures { result ≡ is_visible octet }
-{
-    0x21 <= octet && octet <= 0x7e
-}
-
-fn are_visible(octets: &[u8]) -> bool
-    ensures { result ≡ list_all is_visible octets.now }
-{
-    octets.iter().all(|octet| is_visible(*octet))
-}
-
 fn is_printable(octet: u8) -> bool
     ensures { result ≡ is_printable octet }
 {
@@ -167,225 +111,6 @@ fn are_printable(octets: &[u8]) -> bool
     ensures { result ≡ list_all is_printable octets.now }
 {
     octets.iter().all(|octet| is_printable(*octet))
-}
-
-/// The text of a target, where it has no octet but visible ones.
-fn target_text(octets: &[u8]) -> Result<&str, Refusal>
-    ensures { IfOk result (λ text. (text.now ≡ octets.now)
-        × IsTrue (list_all is_visible octets.now)) }
-{
-    if !are_visible(octets) {
-        return Err(Refusal::Request);
-    }
-    match str::from_utf8(octets) {
-        Ok(text) => Ok(text),
-        Err(_) => Err(Refusal::Request),
-    }
-}
-
-/// The path of a target, and its query.
-fn path_and_query(text: &str) -> (&str, &str)
-    ensures { IsPathAndQuery text.now result.0.now result.1.now }
-{
-    match text.split_once('?') {
-        Some(parts) => parts,
-        None => (text, ""),
-    }
-}
-
-/// The host of an absolute-form behind its scheme, and the path and query behind that.
-fn at_path(text: &str) -> Result<(&str, &str), Refusal>
-    ensures { IfOk result (λ parts. text.now ≡ parts.0.now ++ parts.1.now) }
-{
-    let Some((host, _)) = at_slash(text) else {
-        return Err(Refusal::Path);
-    };
-    match behind(text, host) {
-        Some(path) => Ok((host, path)),
-        None => Err(Refusal::Path),
-    }
-}
-
-/// The text of the field Host.
-fn host_in(field: Option<&[u8]>) -> Result<&str, Refusal>
-    ensures { IfOk result (λ host. option_copied field.entry ≡ Some host.now) }
-{
-    let Some(octets) = field else {
-        return Err(Refusal::Host);
-    };
-    match str::from_utf8(octets) {
-        Ok(host) => Ok(host),
-        Err(_) => Err(Refusal::Host),
-    }
-}
-
-/// The host of a target, and its path and query.
-fn host_and_path<'a>(
-    target: &'a str,
-    field: Option<&'a [u8]>,
-) -> Result<(&'a str, &'a str), Refusal>
-    ensures { IfOk result (λ parts. IsTarget target.now (option_copied field.entry)
-        parts.0.now parts.1.now) }
-{
-    if let Some(rest) = behind(target, "http://") {
-        return at_path(rest);
-    }
-    if let Some(rest) = behind(target, "https://") {
-        return at_path(rest);
-    }
-    Ok((host_in(field)?, target))
-}
-
-/// Whether a segment is one of those by which a path goes nowhere or up.
-fn is_dots(segment: &[u8]) -> bool
-    ensures { result ≡ (bytes_eq segment.now (codes ".") || bytes_eq segment.now (codes "..")) }
-{
-    segment == b".".as_slice() || segment == b"..".as_slice()
-}
-
-fn has_no_slash(segment: &[u8]) -> bool
-    ensures { result ≡ list_all has_no_slash segment.now }
-{
-    segment.iter().all(|octet| *octet != b'/')
-}
-
-/// Whether a segment, with its octets decoded, names itself.
-fn is_plain_segment(alloc: Global, segment: &str) -> Result<bool, AllocError>
-    ensures { IfOk result (λ is_plain. is_plain ≡ is_plain_segment segment.now) }
-{
-    let mut octets = Vec::new(alloc);
-    percent_decode(segment.as_bytes()).append_to(&mut octets)?;
-    Ok(!is_dots(octets.as_slice()) && has_no_slash(octets.as_slice()))
-}
-
-/// Whether each segment of a path does.
-fn is_plain_path(alloc: Global, path: &str) -> Result<bool, AllocError>
-    ensures { IfOk result (λ is_plain. is_plain ≡ is_plain_path path.now) }
-{
-    let mut are_plain = true;
-    for segment in path.split('/') {
-        let is_plain = is_plain_segment(alloc, segment)?;
-        are_plain = are_plain && is_plain;
-    }
-    Ok(are_plain)
-}
-
-fn method_of(guard: &Guard, head: &Head<'_>) -> Method
-    ensures { IsMethodOf guard.now head.now result }
-{
-    let Ok(method) = str::from_utf8(head.method) else {
-        return Method::Other;
-    };
-    match method {
-        "GET" => Method::Get,
-        "HEAD" => Method::Head,
-        "POST" => Method::Post,
-        "DELETE" => Method::Delete,
-        "OPTIONS" => {
-            if guard.is_preflight(&head.fields) {
-                Method::Preflight
-            } else {
-                Method::Other
-            }
-        }
-        _ => Method::Other,
-    }
-}
-
-/// The methods of what stands at a path.
-fn allowed_at(resource: Resource<'_>) -> Result<Allowed, Refusal> {
-    match resource {
-        Resource::Nowhere => Err(Refusal::Path),
-        Resource::Backup => Ok(Allowed::Post),
-        Resource::Entry(..) => Ok(Allowed::Delete),
-        Resource::Worklist(_) => Ok(Allowed::GetAndPost),
-        _ => Ok(Allowed::Get),
-    }
-}
-
-/// Refuses a path where nothing stands, and a method that is not of what stands there.
-fn check_method(resource: Resource<'_>, method: Method) -> Result<(), Refusal> {
-    let allowed = allowed_at(resource)?;
-    let is_allowed = match method {
-        Method::Get | Method::Head => { allowed == Allowed::Get || allowed == Allowed::GetAndPost }
-        Method::Post => allowed == Allowed::Post || allowed == Allowed::GetAndPost,
-        Method::Delete => allowed == Allowed::Delete,
-        Method::Preflight => is_searched(resource),
-        Method::Other => false,
-    };
-    if is_allowed {
-        Ok(())
-    } else {
-        Err(Refusal::Method(allowed))
-    }
-}
-
-/// Whether a resource is searched for what an institution keeps, or counts it.
-fn is_searched(resource: Resource<'_>) -> bool
-    ensures { result ≡ is_searched resource.entry }
-{
-    match resource {
-        Resource::Counts(_)
-        | Resource::Studies(_)
-        | Resource::Series(..)
-        | Resource::Images(..)
-        | Resource::Unsearched(_)
-        | Resource::Worklist(_)
-        | Resource::Steps(_) => true,
-        _ => false,
-    }
-}
-
-/// Whether a method only looks, or asks leave for that.
-fn only_looks(method: Method) -> bool
-    ensures { result ≡ only_looks method }
-{
-    match method {
-        Method::Get | Method::Head | Method::Preflight => true,
-        Method::Post | Method::Delete | Method::Other => false,
-    }
-}
-
-/// The pages of other sites that may send a request of a method for a resource.
-fn openness_of(resource: Resource<'_>, method: Method) -> Openness
-    ensures { result ≡ openness_of resource.entry method }
-{
-    if is_page(resource) {
-        Openness::Tab
-    } else if is_searched(resource) && only_looks(method) {
-        Openness::Viewer
-    } else {
-        Openness::Closed
-    }
-}
-
-/// Whose key opens a resource: an institution's, or the operator's.
-fn owner_of<'a>(resource: Resource<'a>) -> &'a [u8]
-    ensures { result.now ≡ owner_of resource.entry }
-{
-    match resource {
-        Resource::Counts(name)
-        | Resource::Studies(name)
-        | Resource::Series(name, _)
-        | Resource::Images(name, _, _)
-        | Resource::Unsearched(name)
-        | Resource::Worklist(name)
-        | Resource::Entry(name, _)
-        | Resource::Steps(name) => name.as_bytes(),
-        _ => OPERATOR,
-    }
-}
-
-/// The right that a method needs at a resource.
-fn right_of(resource: Resource<'_>, method: Method) -> Right
-    ensures { result ≡ right_of resource.entry method }
-{
-    match (resource, method) {
-        (Resource::Metrics, _) => Right::Metrics,
-        (Resource::Backup, _) => Right::Backup,
-        (_, Method::Post | Method::Delete) => Right::Order,
-        _ => Right::Read,
-    }
 }
 
 pub(crate) fn begins(text: &str, word: &str) -> bool
@@ -513,11 +238,12 @@ fn search_of(alloc: Global, subject: Subject, name: &str) -> Result<Search, Allo
     Ok(Search::new(alloc, subject, institution, LIMIT))
 }
 
-/// Gives a search a UID that stands in the path.
+/// Gives a search a UID of the path, unless it is too long.
 fn put_uid(alloc: Global, search: &mut Search, tag: Tag, text: &str) -> Result<(), Unasked>
-    ensures { OnOk result (search.new ≡ record search.old {
-      keys = search.old.keys ++ uid_key tag text.now ∷ [];
-    }) }
+    ensures { MatchResult result
+        (λ _. search.new ≡ record search.old { keys = search.old.keys ++ uid_key tag text.now ∷ [] })
+        (IsUnasked (λ why. (why ≡ Refusal.Request)
+        × (value_most < length (percent_decode text.now)))) }
 {
     if search.take_value(alloc, tag, text)? {
         Ok(())
@@ -528,7 +254,9 @@ fn put_uid(alloc: Global, search: &mut Search, tag: Tag, text: &str) -> Result<(
 
 /// The search of the series of a study.
 fn series_of(alloc: Global, name: &str, study: &str) -> Result<Search, Unasked>
-    ensures { IfOk result (λ search. search ≡ series_of name.now study.now) }
+    ensures { MatchResult result (λ search. search ≡ series_of name.now study.now)
+        (IsUnasked (λ why. (why ≡ Refusal.Request)
+        × (value_most < length (percent_decode study.now)))) }
 {
     let mut search = search_of(alloc, Subject::Series, name)?;
     put_uid(alloc, &mut search, tags::STUDY_INSTANCE_UID, study)?;
@@ -537,7 +265,10 @@ fn series_of(alloc: Global, name: &str, study: &str) -> Result<Search, Unasked>
 
 /// The search of the images of a series.
 fn images_of(alloc: Global, name: &str, study: &str, series: &str) -> Result<Search, Unasked>
-    ensures { IfOk result (λ search. search ≡ images_of name.now study.now series.now) }
+    ensures { MatchResult result (λ search. search ≡ images_of name.now study.now series.now)
+        (IsUnasked (λ why. (why ≡ Refusal.Request)
+        × ((value_most < length (percent_decode study.now))
+        ⊎ (value_most < length (percent_decode series.now))))) }
 {
     let mut search = search_of(alloc, Subject::Images, name)?;
     put_uid(alloc, &mut search, tags::STUDY_INSTANCE_UID, study)?;
@@ -547,7 +278,8 @@ fn images_of(alloc: Global, name: &str, study: &str, series: &str) -> Result<Sea
 
 /// The search at a path, before its query says more.
 fn search_at(alloc: Global, resource: Resource<'_>) -> Result<Search, Unasked>
-    ensures { IfOk result (IsSearchAt resource.entry) }
+    ensures { MatchResult result (IsSearchAt resource.entry)
+        (IsUnasked (HasNoSearch resource.entry)) }
 {
     match resource {
         Resource::Studies(name) => Ok(search_of(alloc, Subject::Studies, name)?),
@@ -562,12 +294,31 @@ fn search_at(alloc: Global, resource: Resource<'_>) -> Result<Search, Unasked>
 
 /// Refuses a search whose answers are in no form that is accepted.
 fn check_accept(fields: &Fields<'_>) -> Result<(), Refusal>
-    ensures { OnOk result (IsTrue fields.now.accepts_json) }
+    ensures { MatchResult result (λ _. IsTrue fields.now.accepts_json)
+        (λ why. (why ≡ Refusal.Accept) × IsFalse fields.now.accepts_json) }
 {
     if fields.accepts_json {
         Ok(())
     } else {
         Err(Refusal::Accept)
+    }
+}
+
+/// Returns the search that GET asks for.
+fn search_for(
+    alloc: Global,
+    resource: Resource<'_>,
+    fields: &Fields<'_>,
+    query: &str,
+) -> Result<Wanted, Unasked>
+    ensures { MatchResult result (IsSought resource.entry fields.now query.now)
+        (IsUnasked (IsUnsought resource.entry fields.now)) }
+{
+    let mut search = search_at(alloc, resource)?;
+    check_accept(fields)?;
+    match take_parts(alloc, &mut search, query)? {
+        None => Ok(Wanted::Request(Request::Search(search))),
+        Some(part) => Ok(Wanted::Misspelled(String::from_str(alloc, part)?)),
     }
 }
 
@@ -578,26 +329,23 @@ fn look_at(
     fields: &Fields<'_>,
     query: &str,
 ) -> Result<Wanted, Unasked>
-    ensures { IfOk result (IsLooked resource.entry fields.now query.now) }
+    ensures { MatchResult result (IsLooked resource.entry fields.now query.now)
+        (IsUnasked (HasNoLook resource.entry fields.now)) }
 {
-    if let Resource::Counts(name) = resource {
-        let name = Listed::copy_of(alloc, name.as_bytes())?;
-        return Ok(Wanted::Request(Request::Counts(name)));
-    }
-    if let Resource::Metrics = resource {
-        return Ok(Wanted::Request(Request::Report));
-    }
-    let mut search = search_at(alloc, resource)?;
-    check_accept(fields)?;
-    match take_parts(alloc, &mut search, query)? {
-        None => Ok(Wanted::Request(Request::Search(search))),
-        Some(part) => Ok(Wanted::Misspelled(String::from_str(alloc, part)?)),
+    match resource {
+        Resource::Counts(name) => {
+            let name = Listed::copy_of(alloc, name.as_bytes())?;
+            Ok(Wanted::Request(Request::Counts(name)))
+        }
+        Resource::Metrics => Ok(Wanted::Request(Request::Report)),
+        _ => search_for(alloc, resource, fields, query),
     }
 }
 
 /// An order to copy all rows to a path.
 fn back_up(alloc: Global, path: &[u8]) -> Result<Request, Unasked>
-    ensures { IfOk result (IsBackup path.now) }
+    ensures { MatchResult result (IsBackup path.now)
+        (IsUnasked (λ why. (why ≡ Refusal.Request) × IsFalse (is_file_path path.now))) }
 {
     if path.is_empty() || !are_printable(path) {
         return Err(Unasked::Refused(Refusal::Request));
@@ -609,7 +357,7 @@ fn back_up(alloc: Global, path: &[u8]) -> Result<Request, Unasked>
 }
 
 /// An order to keep an entry, whose data set has these octets.
-fn schedule(alloc: Global, name: &str, octets: Listed<u8>) -> Result<Wanted, Unasked>
+fn schedule(alloc: Global, name: &str, octets: Listed<u8>) -> Result<Wanted, AllocError>
     ensures { IfOk result (λ it. it ≡ wanted.Request (ask.Schedule name.now octets)) }
 {
     Ok(Wanted::Request(Request::Schedule {
@@ -619,7 +367,7 @@ fn schedule(alloc: Global, name: &str, octets: Listed<u8>) -> Result<Wanted, Una
 }
 
 /// An order to keep the entry that a body spells as DICOM JSON.
-fn schedule_json(alloc: Global, name: &str, body: &[u8]) -> Result<Wanted, Unasked>
+fn schedule_json(alloc: Global, name: &str, body: &[u8]) -> Result<Wanted, AllocError>
     ensures { IfOk result (IsEntryPosted name.now form.DicomJson body.now) }
 {
     match data_set_of(alloc, body) {
@@ -627,18 +375,19 @@ fn schedule_json(alloc: Global, name: &str, body: &[u8]) -> Result<Wanted, Unask
             let packed = PackedDataSet::new(alloc, &data_set)?;
             schedule(alloc, name, packed.into_octets())
         }
-        Err(JsonFault::NoMemory) => Err(Unasked::NoMemory),
+        Err(JsonFault::NoMemory) => Err(AllocError),
         Err(fault) => Ok(Wanted::Unreadable(fault)),
     }
 }
 
 /// What POST at the worklist comes to.
 fn post_entry(alloc: Global, name: &str, form: BodyForm, body: &[u8]) -> Result<Wanted, Unasked>
-    ensures { IfOk result (IsEntryPosted name.now form body.now) }
+    ensures { MatchResult result (IsEntryPosted name.now form body.now)
+        (IsUnasked (λ why. (why ≡ Refusal.MediaType) × (form ≡ BodyForm.Other))) }
 {
     match form {
-        BodyForm::Dicom => schedule(alloc, name, Listed::copy_of(alloc, body)?),
-        BodyForm::DicomJson => schedule_json(alloc, name, body),
+        BodyForm::Dicom => Ok(schedule(alloc, name, Listed::copy_of(alloc, body)?)?),
+        BodyForm::DicomJson => Ok(schedule_json(alloc, name, body)?),
         BodyForm::Other => Err(Unasked::Refused(Refusal::MediaType)),
     }
 }
@@ -650,7 +399,8 @@ fn post_at(
     form: BodyForm,
     body: &[u8],
 ) -> Result<Wanted, Unasked>
-    ensures { IfOk result (IsPosted resource.entry form body.now) }
+    ensures { MatchResult result (IsPosted resource.entry form body.now)
+        (IsUnasked (HasNoPost resource.entry form body.now)) }
 {
     match resource {
         Resource::Worklist(name) => post_entry(alloc, name, form, body),
@@ -661,7 +411,8 @@ fn post_at(
 
 /// Returns the request that DELETE makes.
 fn delete_at(alloc: Global, resource: Resource<'_>) -> Result<Request, Unasked>
-    ensures { IfOk result (Deleting resource.entry) }
+    ensures { MatchResult result (Deleting resource.entry)
+        (IsUnasked (HasNoDelete resource.entry)) }
 {
     let Resource::Entry(name, id) = resource else {
         return Err(Unasked::Refused(Refusal::Path));
@@ -681,7 +432,8 @@ fn wanted_by(
     fields: &Fields<'_>,
     body: &[u8],
 ) -> Result<Wanted, Unasked>
-    ensures { IfOk result (IsWanted aim.entry fields.now body.now) }
+    ensures { MatchResult result (IsWanted aim.entry fields.now body.now)
+        (IsUnasked (HasNoWish aim.entry.method aim.entry.resource fields.now body.now)) }
 {
     match aim.method {
         Method::Get | Method::Head => look_at(alloc, aim.resource, fields, aim.query),
@@ -691,64 +443,31 @@ fn wanted_by(
     }
 }
 
-fn is_page(resource: Resource<'_>) -> bool
-    ensures { result ≡ is_page resource.entry }
-{
-    matches!(resource, Resource::Page)
-}
-
-/// Refuses a head of HTTP/1.1 that names no host (RFC 9112 section 3.2).
-fn check_host(head: &Head<'_>) -> Result<(), Refusal>
-    ensures { OnOk result (IsTrue (head.now.is_old || is_some (option_copied head.now.fields.host))) }
-{
-    if head.is_old || head.fields.host.is_some() {
-        Ok(())
-    } else {
-        Err(Refusal::Request)
-    }
-}
-
-/// Refuses a path with a segment that does not name itself.
-fn check_path(alloc: Global, path: &str) -> Result<(), Unasked>
-    ensures { OnOk result (IsTrue (is_plain_path path.now)) }
-{
-    if is_plain_path(alloc, path)? {
-        Ok(())
-    } else {
-        Err(Unasked::Refused(Refusal::Request))
-    }
-}
-
-/// Returns the aim of a head, if it is let in.
-fn let_in<'a>(alloc: Global, guard: &Guard, head: &Head<'a>) -> Result<Aim<'a>, Unasked>
-    ensures { IfOk result (IsLetIn guard.now head.now) }
-{
-    check_host(head)?;
-    let (host, text) = host_and_path(target_text(head.target)?, head.fields.host)?;
-    let (path, query) = path_and_query(text);
-    check_path(alloc, path)?;
-    let resource = resource_of(path);
-    let method = method_of(guard, head);
-    guard.admit(host, openness_of(resource, method), &head.fields)?;
-    check_method(resource, method)?;
-    Ok(Aim {
-        resource,
-        method,
-        query,
-    })
-}
-
 /// The entry whose key opens what a head aims at.
 fn entry_for<'a>(guard: &'a Guard, aim: Aim<'_>, head: &Head<'_>) -> Result<&'a KeyEntry, Refusal>
     ensures by { IfOk result (λ entry. IsOpenedBy guard.now.keys (owner_of aim.entry.resource)
         (right_of aim.entry.resource aim.entry.method) (option_copied head.now.fields.authorization)
         entry.now) }
-    ensures opened { OnOk result (IsOpened guard.now.keys (owner_of aim.entry.resource)
-        (right_of aim.entry.resource aim.entry.method)
-        (option_copied head.now.fields.authorization)) }
+    ensures opened { OnOk result (IsAimOpened guard.now head.now aim.entry) }
+    ensures shut { IfErr result (IsAimShut guard.now head.now aim.entry) }
 {
     let right = right_of(aim.resource, aim.method);
     guard.open(owner_of(aim.resource), right, head.fields.authorization)
+}
+
+/// The answer to what everybody may do, where a head aims at that.
+fn free_answer(aim: Aim<'_>) -> ParsedRequest
+    ensures { IsTrue (is_free aim.entry) → IsFreeAnswer aim.entry result }
+{
+    if aim.method.is_preflight() {
+        return ParsedRequest::Preflight;
+    }
+    match aim.resource {
+        Resource::Page => ParsedRequest::Document(Document::Page),
+        Resource::Style => ParsedRequest::Document(Document::Style),
+        Resource::Script => ParsedRequest::Document(Document::Script),
+        _ => ParsedRequest::Health,
+    }
 }
 
 /// A question, before its framing is known.
@@ -769,99 +488,72 @@ fn question_of(asked: Request, wish: Wish) -> Question
     }
 }
 
-/// Returns the action to take for a request, or why there is none.
-fn answer_for(
+/// Returns the action to take for a request whose key opens what it aims at.
+fn opened_answer(
     alloc: Global,
-    guard: &Guard,
+    aim: Aim<'_>,
     request: &HttpRequest<'_>,
 ) -> Result<ParsedRequest, Unasked>
-    ensures { IfOk result (IsAsked guard.now request.now) }
+    ensures { (guard : Guard) → IsLetIn guard request.now.head aim.entry
+        → IsFalse (is_free aim.entry) → IsAimOpened guard request.now.head aim.entry
+        → MatchResult result (IsAsked guard request.now)
+        (IsUnasked (AsksNothing guard request.now)) }
 {
-    let aim = let_in(alloc, guard, &request.head)?;
-    if aim.method.is_preflight() {
-        return Ok(ParsedRequest::Preflight);
-    }
-    match aim.resource {
-        Resource::Page => Ok(ParsedRequest::Document(Document::Page)),
-        Resource::Style => Ok(ParsedRequest::Document(Document::Style)),
-        Resource::Script => Ok(ParsedRequest::Document(Document::Script)),
-        Resource::Health => Ok(ParsedRequest::Health),
-        _ => {
-            entry_for(guard, aim, &request.head)?;
-            match wanted_by(alloc, aim, &request.head.fields, request.body)? {
-                Wanted::Request(asked) => {
-                    let wish = wish_of(&request.head.fields, aim.query);
-                    Ok(ParsedRequest::Question(question_of(asked, wish)))
-                }
-                Wanted::Misspelled(word) => Ok(ParsedRequest::Misspelled(word)),
-                Wanted::Unreadable(fault) => Ok(ParsedRequest::Unreadable(fault)),
-            }
+    match wanted_by(alloc, aim, &request.head.fields, request.body)? {
+        Wanted::Request(asked) => {
+            let wish = wish_of(&request.head.fields, aim.query);
+            Ok(ParsedRequest::Question(question_of(asked, wish)))
         }
+        Wanted::Misspelled(word) => Ok(ParsedRequest::Misspelled(word)),
+        Wanted::Unreadable(fault) => Ok(ParsedRequest::Unreadable(fault)),
     }
 }
 
-/// Returns what a request asks of the server, what else answers it, or why it is refused: a host
-/// that is not the front's, a page of another origin, a path, a method, a key that does not open
-/// the path or may not do there what is asked, or a body in a form that is not read.
+/// Returns what a request asks of the server whose head is judged so, what else answers it, or why it is
+/// refused: a host that is not the front's, a page of another origin, a path, a method, a key that does not
+/// open the path or may not do there what is asked, or a body in a form that is not read.
 pub fn ask(
     alloc: Global,
-    guard: &Guard,
+    judgement: Judgement<'_>,
     request: &HttpRequest<'_>,
 ) -> Result<ParsedRequest, AllocError>
-    ensures { IfOk result (IsAsked guard.now request.now) }
+    ensures { (guard : Guard) → IsJudged guard request.now.head judgement.entry
+        → IfOk result (IsAsked guard request.now) }
 {
-    match answer_for(alloc, guard, request) {
-        Ok(asked) => Ok(asked),
-        Err(Unasked::Refused(refusal)) => Ok(ParsedRequest::Refused(refusal)),
-        Err(Unasked::NoMemory) => Err(AllocError),
+    match judgement {
+        Judgement::Refused(refusal) => Ok(ParsedRequest::Refused(refusal)),
+        Judgement::Open { aim } => Ok(free_answer(aim)),
+        Judgement::Opened { aim, .. } => match opened_answer(alloc, aim, request) {
+            Ok(answer) => Ok(answer),
+            Err(Unasked::Refused(refusal)) => Ok(ParsedRequest::Refused(refusal)),
+            Err(Unasked::NoMemory) => Err(AllocError),
+        },
     }
 }
 
-/// The resource at the path of a head.
-fn resource_at<'a>(head: &Head<'a>) -> Result<Resource<'a>, Refusal>
-    ensures { IfOk result (IsResourceAt head.now) }
-{
-    let (_, text) = host_and_path(target_text(head.target)?, head.fields.host)?;
-    let (path, _) = path_and_query(text);
-    Ok(resource_of(path))
-}
-
-/// Returns the kind of the resource at the path of a head.
-pub fn kind_at(head: &Head<'_>) -> ResourceKind
-    ensures { IsKindAt head.now result }
-{
-    match resource_at(head) {
-        Ok(resource) => kind_of(resource),
-        Err(_) => ResourceKind::Nowhere,
-    }
-}
-
-/// Returns the judgement of a head that is not refused: it is let in, and only asks leave to look, or may
-/// see what it aims at.
+/// Returns the judgement of a head that is not refused: it is let in, and everybody may do what it aims at,
+/// or a key opens that.
 fn judgement_of<'a>(
     alloc: Global,
     guard: &'a Guard,
-    head: &Head<'_>,
+    head: &Head<'a>,
 ) -> Result<Judgement<'a>, Unasked>
-    ensures { IfOk result (IsJudged guard.now head.now) }
+    ensures { MatchResult result (IsJudged guard.now head.now)
+        (IsUnasked (IsRefusedFor guard.now head.now)) }
 {
     let aim = let_in(alloc, guard, head)?;
-    if aim.method.is_preflight() {
-        return Ok(Judgement::Open);
+    if is_free(aim) {
+        return Ok(Judgement::Open { aim });
     }
-    match aim.resource {
-        Resource::Page | Resource::Style | Resource::Script | Resource::Health => {
-            Ok(Judgement::Open)
-        }
-        _ => Ok(Judgement::Opened(entry_for(guard, aim, head)?)),
-    }
+    let entry = entry_for(guard, aim, head)?;
+    Ok(Judgement::Opened { aim, entry })
 }
 
 /// Returns the judgement of a request by its head, before its body has come.
 pub fn judge<'a>(
     alloc: Global,
     guard: &'a Guard,
-    head: &Head<'_>,
+    head: &Head<'a>,
 ) -> Result<Judgement<'a>, AllocError>
     ensures { IfOk result (IsJudged guard.now head.now) }
 {
@@ -878,8 +570,8 @@ impl<'a> Judgement<'a> {
         ensures { result.now ≡ label_of self.entry }
     {
         match self {
-            Judgement::Opened(entry) => entry.label.as_slice(),
-            Judgement::Refused(_) | Judgement::Open => &[],
+            Judgement::Opened { entry, .. } => entry.label.as_slice(),
+            Judgement::Refused(_) | Judgement::Open { .. } => &[],
         }
     }
 }

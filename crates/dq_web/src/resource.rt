@@ -1,6 +1,6 @@
 //! The resources that paths name.
-ghost use Rattle.std.specs.Prelude.{◌≡◌, ◌++◌, codes, IfSome};
-ghost use Rattle.dq_web.specs.Resources.{kind_of, IsPath, IsPathBelow, IsPathOfStudies};
+ghost use Rattle.std.specs.Prelude.{◌≡◌, ◌≢◌, ℕ, ◌++◌, List, IsTrue, MatchOption};
+ghost use Rattle.dq_web.specs.Resources.{kind_of, beneath, is_segment, IsFound, IsPath, IsOwnPath, IsPathBelow, IsPathOfStudies};
 
 /// The resource at a path. Only the path of a request names an institution.
 #[derive(Clone, Copy)]
@@ -80,7 +80,8 @@ pub(crate) fn kind_of(resource: Resource<'_>) -> ResourceKind
 
 /// Returns the text before the first slash, and the text after it.
 pub(crate) fn at_slash(text: &str) -> Option<(&str, &str)>
-    ensures { IfSome result (λ parts. text.now ≡ parts.0.now ++ codes "/" ++ parts.1.now) }
+    ensures { MatchOption result (IsTrue (is_segment text.now))
+        (λ parts. (text.now ≡ beneath parts.0.now parts.1.now) × IsTrue (is_segment parts.0.now)) }
 {
     match text.split_once('/') {
         Some(parts) => Some(parts),
@@ -90,14 +91,15 @@ pub(crate) fn at_slash(text: &str) -> Option<(&str, &str)>
 
 /// Returns the rest of a text after a word at its front.
 pub(crate) fn behind<'a>(text: &'a str, word: &str) -> Option<&'a str>
-    ensures { IfSome result (λ rest. text.now ≡ word.now ++ rest.now) }
+    ensures { MatchOption result ((rest : List ℕ) → text.now ≢ word.now ++ rest)
+        (λ rest. text.now ≡ word.now ++ rest.now) }
 {
     text.strip_prefix(word)
 }
 
 /// The resource of what is below a study, by what stands behind the words of its studies.
 fn resource_in_study<'a>(institution: &'a str, rest: &'a str) -> Resource<'a>
-    ensures { IsPathOfStudies institution.now rest.now result }
+    ensures { IsFound (IsPathOfStudies institution.now rest.now) result }
 {
     let Some((study, rest)) = at_slash(rest) else {
         return Resource::Nowhere;
@@ -120,7 +122,7 @@ fn resource_in_study<'a>(institution: &'a str, rest: &'a str) -> Resource<'a>
 
 /// The resource of an institution, by what stands behind its name.
 fn resource_of_institution<'a>(institution: &'a str, rest: &'a str) -> Resource<'a>
-    ensures { IsPathBelow institution.now rest.now result }
+    ensures { IsFound (IsPathBelow institution.now rest.now) result }
 {
     match rest {
         "counts" => return Resource::Counts(institution),
@@ -139,25 +141,34 @@ fn resource_of_institution<'a>(institution: &'a str, rest: &'a str) -> Resource<
     }
 }
 
+/// The resource at the path of an institution.
+fn resource_below(path: &str) -> Resource<'_>
+    ensures { IsFound (IsOwnPath path.now) result }
+{
+    let Some(rest) = behind(path, "/") else {
+        return Resource::Nowhere;
+    };
+    let Some((institution, rest)) = at_slash(rest) else {
+        return Resource::Nowhere;
+    };
+    // (the operator's name is no institution's)
+    if institution == "*" {
+        return Resource::Nowhere;
+    }
+    resource_of_institution(institution, rest)
+}
+
 /// Returns the resource at a path.
 pub fn resource_of(path: &str) -> Resource<'_>
     ensures { IsPath path.now result }
 {
     match path {
-        "/" => return Resource::Page,
-        "/page.css" => return Resource::Style,
-        "/page.js" => return Resource::Script,
-        "/health" => return Resource::Health,
-        "/metrics" => return Resource::Metrics,
-        "/backup" => return Resource::Backup,
-        _ => {}
-    }
-    let Some(rest) = behind(path, "/") else {
-        return Resource::Nowhere;
-    };
-    match at_slash(rest) {
-        // (the operator's name is no institution's)
-        Some(("*", _)) | None => Resource::Nowhere,
-        Some((institution, rest)) => resource_of_institution(institution, rest),
+        "/" => Resource::Page,
+        "/page.css" => Resource::Style,
+        "/page.js" => Resource::Script,
+        "/health" => Resource::Health,
+        "/metrics" => Resource::Metrics,
+        "/backup" => Resource::Backup,
+        _ => resource_below(path),
     }
 }

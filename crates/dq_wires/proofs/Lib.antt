@@ -14,3 +14,4 @@ pub mod Isolating
 pub mod Cutting
 pub mod Playing
 pub mod Exact
+pub mod Fairness

@@ -1,5 +1,6 @@
 -- The connections that are held over wires.
-use Rattle.std.specs.Prelude.{◌==◌, ◌+◌, ℕ, Bool, false, List, [], length, Option, find}
+use Rattle.std.specs.Prelude.{◌==◌, ◌+◌, ℕ, Bool, false, not, List, [], length, Option, find}
+use Rattle.dq_list.specs.Lengths.{is_empty}
 use Rattle.dq_core.specs.declared.event.Reply.{Reply}
 use Rattle.dq_core.specs.declared.event.Reply.TheVariants as reply
 
@@ -16,6 +17,10 @@ pub record HeldConnection : Type 0 where
 abbrev pub new_held : ℕ → ℕ → HeldConnection
 new_held place number =
     record { place = place; number = number; heard = 0; unsent = []; closed = false }
+
+-- Octets were answered that are not yet written.
+abbrev pub has_unsent : HeldConnection → Bool
+has_unsent wire = not (is_empty wire.unsent)
 
 -- the connection of a number, if it is held
 unfoldable pub connection_with : ℕ → List HeldConnection → Option HeldConnection

@@ -17,3 +17,8 @@ pub mod Cuts
 pub mod Looping
 pub mod Lines
 pub mod Watching
+pub mod Times
+pub mod SocketTurns
+pub mod SocketLimits
+pub mod Sockets
+pub mod LogWords

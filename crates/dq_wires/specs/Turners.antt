@@ -1,13 +1,15 @@
 -- A turner as contracts see it.
-use Rattle.std.specs.Prelude.{◌≡◌, ◌+◌, ℕ, IsTrue, List, [], ◌∷◌, ◌++◌, Option, Some, None, IfSome, Result, Ok, Err}
+use Rattle.std.specs.Prelude.{◌≡◌, ◌+◌, ◌&&◌, ℕ, Bool, not, IsTrue, List, [], ◌∷◌, ◌++◌, Option, Some, None, IfSome, Result, Ok, Err}
 use Rattle.dq_core.specs.declared.event.Event.{Event}
 use Rattle.dq_core.specs.declared.event.Event.TheVariants.{Open, Piece, End, Pull, Schedule, Withdraw}
 use Rattle.dq_core.specs.Histories.{is_above}
+use Rattle.dq_core.specs.Slots.{has_search}
 use Rattle.dq_core.specs.ServerView.{ServerView}
 use Rattle.dq_wires.specs.declared.calls.Call.{Call}
 use Rattle.dq_wires.specs.declared.calls.Call.TheVariants.{Accept}
 use Rattle.dq_wires.specs.declared.fault.TurnFault.{TurnFault}
 use Rattle.dq_wires.specs.declared.fault.TurnFault.TheVariants.{NoMemory, Server, Network}
+use Rattle.dq_wires.specs.HeldConnections.{HeldConnection}
 use Rattle.dq_wires.specs.Logs.{one_more_failure}
 use Rattle.dq_wires.specs.Turns.{Hold, accept_failure}
 
@@ -16,6 +18,10 @@ pub record TurnerView (Tables : Type 0) : Type 0 where
   pub server : ServerView Tables
   pub hold : Hold
   pub fault : Option TurnFault
+
+-- A C-FIND is open on a connection, of which answers remain. After a fault none is.
+abbrev pub is_searching : {Tables : Type 0} → ServerView Tables → HeldConnection → Bool
+is_searching server wire = not server.spent && has_search wire.number server.slots
 
 -- The number after a given one can be opened.
 abbrev pub NextOpens : Option ℕ → ℕ → Type 0

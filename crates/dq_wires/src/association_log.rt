@@ -1,6 +1,7 @@
 //! A log of connections and their associations.
 ghost use Rattle.std.specs.Prelude.{◌≡◌, ◌⊎◌, ◌++◌, [], ◌∷◌, map};
 ghost use Rattle.dq_wires.specs.Lines.{has_line};
+ghost use Rattle.dq_wires.specs.LogWords.{milliseconds_between};
 ghost use Rattle.dq_wires.specs.Watching.{newly_watched, shut_at, without_associations, without_shut};
 
 use crate::given_up::GivenUp;
@@ -265,7 +266,9 @@ fn is_told(noted: &LogEvent) -> bool
 }
 
 /// How many milliseconds passed from one time to another, and none where the clock was set back.
-fn milliseconds_between(from: Timestamp, to: Timestamp) -> u64 {
+fn milliseconds_between(from: Timestamp, to: Timestamp) -> u64
+    ensures { result ≡ milliseconds_between from to }
+{
     let passed = to.as_millisecond().saturating_sub(from.as_millisecond());
     u64::try_from(passed).unwrap_or(0)
 }

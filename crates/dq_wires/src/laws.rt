@@ -1,5 +1,5 @@
 //! Laws of turns and of servings. Each function's contract is a law; its body does nothing.
-ghost use Rattle.std.specs.Prelude.{◌≡◌, ◌≤◌, ℕ, IsTrue, List, [], ◌∷◌, ◌++◌, Option, Some, length, map};
+ghost use Rattle.std.specs.Prelude.{◌≡◌, ◌≤◌, ◌<◌, ◌+◌, ◌-◌, ◌^◌, ℕ, true, false, Any, IsTrue, List, [], ◌∷◌, ◌++◌, Option, Some, length, map};
 ghost use Rattle.std.specs.List.{AllByRecursion, flat_map};
 ghost use Rattle.dq_config.specs.declared.config.Institution.{Institution};
 ghost use Rattle.dq_tables.specs.declared.row.Row.{Row};
@@ -19,6 +19,10 @@ ghost use Rattle.dq_core.specs.ServerView.{ServerView, Refines};
 ghost use Rattle.dq_core.specs.Looking.{Looked};
 ghost use Rattle.dq_wires.specs.declared.calls.Call.{Call};
 ghost use Rattle.dq_wires.specs.declared.fault.TurnFault.{TurnFault};
+ghost use Rattle.dq_wires.specs.declared.socket_connection.SocketConnection.{SocketConnection};
+ghost use Rattle.dq_wires.specs.declared.sockets.SocketWires.{SocketWires};
+ghost use Rattle.dq_wires.specs.SocketTurns.{goes_on, connection_at, slot_goes_on_before, put_off};
+ghost use Rattle.dq_wires.specs.Sockets.{is_next, is_put_off};
 ghost use Rattle.dq_wires.specs.Limits.{most_wires};
 ghost use Rattle.dq_wires.specs.HeldConnections.{HeldConnection};
 ghost use Rattle.dq_wires.specs.Steps.{Step, Runs, replies_of};
@@ -203,3 +207,22 @@ pub fn institutions_are_isolated_on_wires<T: Tables, O: Tables>()
     verdict_is_of_the_request();
     a_longer_stream_adds_inputs();
 }
+
+/// Next pages over sockets take turns. At most one is written in a turn, beside the first pages of new
+/// searches, and no page that waits was put off more often than that one. If a page is put off before
+/// another was written, one waits that was put off more often. A page that is put off counts it.
+pub fn pages_take_turns()
+    ensures one { (place : ℕ) (wires : SocketWires) → wires.has_gone_on ≡ true →
+        is_next place wires ≡ false }
+    ensures longest { (place at : ℕ) (wires : SocketWires) (connection other : SocketConnection) →
+        connection_at place wires.connections.items ≡ Some connection →
+        connection_at at wires.connections.items ≡ Some other →
+        is_next place wires ≡ true → goes_on other ≡ true → other.is_sending ≡ true →
+        other.share.put_off ≤ connection.share.put_off }
+    ensures waits { (place : ℕ) (wires : SocketWires) (connection : SocketConnection) →
+        connection_at place wires.connections.items ≡ Some connection →
+        wires.has_gone_on ≡ false → is_put_off place wires ≡ true →
+        Any (λ slot. slot_goes_on_before connection slot ≡ true) wires.connections.items }
+    ensures older { (connection : SocketConnection) → connection.share.put_off < 2 ^ 64 - 1 →
+        (put_off connection).share.put_off ≡ connection.share.put_off + 1 }
+{}

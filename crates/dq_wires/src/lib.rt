@@ -19,6 +19,7 @@ mod looping;
 mod memory;
 mod served_connection;
 mod server_step;
+mod slots;
 mod socket;
 mod socket_connection;
 mod sockets;

@@ -1,5 +1,6 @@
 //! Where the lines of a log go.
-ghost use Rattle.std.specs.Prelude.{◌≤◌, length, IfOk};
+ghost use Rattle.std.specs.Prelude.{◌≡◌, IfOk};
+ghost use Rattle.dq_wires.specs.LogWords.{IsStandardError, IsFile};
 
 use mio::unix::SourceFd;
 use mio::{Events, Interest, Poll, Token};
@@ -39,17 +40,23 @@ pub struct LogEnd {
 
 impl LogEnd {
     /// Standard error.
-    pub fn errors(alloc: Global, rt: &HostRuntime) -> io::Result<Self> {
+    pub fn errors(alloc: Global, rt: &HostRuntime) -> io::Result<Self>
+        ensures { IfOk result (λ end. IsStandardError end.paper) }
+    {
         Self::over(alloc, rt, Paper::Errors(rt.stderr()))
     }
 
     /// The end of the file at a path, which is made where there is none.
-    pub fn file(alloc: Global, rt: &HostRuntime, path: &str) -> io::Result<Self> {
+    pub fn file(alloc: Global, rt: &HostRuntime, path: &str) -> io::Result<Self>
+        ensures { IfOk result (λ end. IsFile end.paper) }
+    {
         let file = OpenOptions::new().append(true).create(true).open(rt, path)?;
         Self::over(alloc, rt, Paper::File(file))
     }
 
-    fn over(alloc: Global, net: &impl Net, paper: Paper) -> io::Result<Self> {
+    fn over(alloc: Global, net: &impl Net, paper: Paper) -> io::Result<Self>
+        ensures { IfOk result (λ end. end.paper ≡ paper) }
+    {
         let poll = Poll::new(net)?;
         let descriptor = paper.descriptor();
         let is_watched = poll
@@ -65,7 +72,9 @@ impl LogEnd {
     }
 
     // Whether a line can be written without waiting.
-    fn is_ready(&mut self) -> io::Result<bool> {
+    fn is_ready(&mut self) -> io::Result<bool>
+        ensures { self.new.paper ≡ self.old.paper }
+    {
         let Some(poll) = &mut self.poll else {
             return Ok(true);
         };

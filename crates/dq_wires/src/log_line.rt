@@ -1,4 +1,8 @@
 //! The lines of a log.
+ghost use Rattle.std.specs.Prelude.{◌≡◌};
+ghost use Rattle.dq_value.specs.Title.{without_spaces};
+ghost use Rattle.dq_wires.specs.LogWords.{rejection_words, ending_word, party_word, searched_word};
+
 use crate::given_up::GivenUp;
 use crate::watched::ServedCounts;
 use dq_assoc::{AssociationEnd, Party, Rejection, Service};
@@ -116,7 +120,9 @@ impl fmt::Display for Keys<'_> {
 }
 
 /// Returns what is meant by a rejection.
-fn rejection_words(rejection: Rejection) -> &'static str {
+fn rejection_words(rejection: Rejection) -> &'static str
+    ensures { result.now ≡ rejection_words rejection }
+{
     match rejection {
         Rejection::ProtocolVersion => "another protocol version",
         Rejection::ApplicationContext => "another application context than DICOM's",
@@ -127,7 +133,9 @@ fn rejection_words(rejection: Rejection) -> &'static str {
 }
 
 /// How an association ended, in a word.
-fn ending_of(noted: &LogEvent) -> &'static str {
+fn ending_of(noted: &LogEvent) -> &'static str
+    ensures { result.now ≡ ending_word noted.now }
+{
     match noted {
         LogEvent::Closed {
             end: AssociationEnd::Released,
@@ -139,7 +147,9 @@ fn ending_of(noted: &LogEvent) -> &'static str {
 }
 
 /// Who aborts, in a word.
-fn name_of(party: Party) -> &'static str {
+fn name_of(party: Party) -> &'static str
+    ensures { result.now ≡ party_word party }
+{
     match party {
         Party::Peer => "peer",
         Party::Server => "server",
@@ -147,14 +157,19 @@ fn name_of(party: Party) -> &'static str {
 }
 
 /// Returns the word for what a service searches.
-fn searched_by(service: Service) -> &'static str {
+fn searched_by(service: Service) -> &'static str
+    ensures { result.now ≡ searched_word service }
+{
     match service {
         Service::WorklistFind => "worklist",
         _ => "study",
     }
 }
 
-fn word_of(value: &Listed<u8>) -> Word<'_> {
+/// Returns a value as a word, without the spaces at its ends.
+fn word_of(value: &Listed<u8>) -> Word<'_>
+    ensures { result.0.now ≡ without_spaces value.now }
+{
     Word(stripped(value.as_slice()))
 }
 

@@ -1,5 +1,5 @@
 //! A capture, played in one process: its events are brought by clients that connect to the server.
-ghost use Rattle.std.specs.Prelude.{◌≡◌, ◌≢◌, ◌<◌, ◌+◌, ◌∷◌, ◌++◌, [], List, None, length, map, IsTrue, IfOk, IfSome, OnOk};
+ghost use Rattle.std.specs.Prelude.{◌≡◌, ◌≢◌, ◌<◌, ◌+◌, ◌∷◌, ◌++◌, ◌≤◌, [], ℕ, List, None, length, take, drop, map, IsTrue, IfOk, IfSome, OnOk};
 ghost use Rattle.std.specs.List.{position};
 ghost use Rattle.dq_tables.specs.declared.row.Row.{Row};
 ghost use Rattle.dq_core.specs.Histories.{is_above, opened_numbers};
@@ -43,7 +43,10 @@ struct Side {
 
 impl Side {
     /// Sends the first of these octets. The answer are the others.
-    fn send<'a>(&mut self, octets: &'a [u8]) -> &'a [u8] {
+    fn send<'a>(&mut self, octets: &'a [u8]) -> &'a [u8]
+        ensures rest { (count : ℕ) × (count ≤ length octets.now) × (result.now ≡ drop count octets.now) }
+        ensures heard { self.new.heard ≡ self.old.heard }
+    {
         let Some(client) = &mut self.client else {
             return octets;
         };
@@ -54,7 +57,10 @@ impl Side {
     }
 
     /// Keeps what came, and answers how many octets.
-    fn receive(&mut self, buffer: &mut [u8]) -> Result<usize, TurnFault> {
+    fn receive(&mut self, buffer: &mut [u8]) -> Result<usize, TurnFault>
+        ensures { IfOk result (λ count.
+            self.new.heard.items ≡ self.old.heard.items ++ take count buffer.new) }
+    {
         let Some(client) = &mut self.client else {
             return Err(TurnFault::Network);
         };
@@ -69,7 +75,9 @@ impl Side {
     }
 
     /// Sends no more.
-    fn end(&mut self) -> Result<(), TurnFault> {
+    fn end(&mut self) -> Result<(), TurnFault>
+        ensures { self.new.heard ≡ self.old.heard }
+    {
         if let Some(client) = &mut self.client {
             client.end()?;
         }

@@ -1,13 +1,15 @@
 //! Wires in memory, which play what they are given.
-ghost use Rattle.std.specs.Prelude.{◌≡◌, ◌≤◌, [], length, Some, IfOk, option_copied};
+ghost use Rattle.std.specs.Prelude.{◌≡◌, ◌≤◌, ◌<◌, [], length, position, Some, IfOk, IfSome, option_copied};
 ghost use Rattle.dq_wires.specs.Logs.{Logs, IfGot, what_came};
+ghost use Rattle.dq_wires.specs.Scripts.{is_read_at, IsNextRead};
 
 use crate::calls::{Call, ReadOutcome, ReadTurn, WireFault};
-use crate::given_up::GivesUp;
+use crate::given_up::{GivenUp, GivesUp};
 use crate::wires::Wires;
 use dq_list::Listed;
 use std::alloc::{AllocError, Global};
 use std::collections::VecDeque;
+use std::net::SocketAddr;
 
 /// The answers to calls, each kind in its own order. If none of a kind is left, no connection
 /// comes, nothing is read, all octets are taken, and a connection is given up.
@@ -39,8 +41,12 @@ impl Script {
     }
 
     // Takes what comes next at a place.
-    fn take_read(&mut self, place: usize) -> ReadOutcome {
-        match self.reads.iter().position(|read| read.0 == place) {
+    fn take_read(&mut self, place: usize) -> ReadOutcome
+        ensures came { IsNextRead self.old.reads.items (position (is_read_at place) self.old.reads.items)
+            result self.new.reads.items }
+        ensures others { self.new ≡ record self.old { reads = self.new.reads } }
+    {
+        match next_at(self.reads.as_slice(), place) {
             None => ReadOutcome::Nothing,
             Some(at) => {
                 let (_, came) = self.reads.remove(at);
@@ -48,6 +54,14 @@ impl Script {
             }
         }
     }
+}
+
+// Where the next read at a place is written, if there is one.
+fn next_at(reads: &[(usize, ReadOutcome)], place: usize) -> Option<usize>
+    ensures at { result ≡ position (is_read_at place) reads.now }
+    ensures within { IfSome result (λ at. at < length reads.now) }
+{
+    reads.iter().position(|read| read.0 == place)
 }
 
 /// Wires that play a script, and tell their calls as long as there is memory for them.
@@ -190,4 +204,25 @@ impl Wires for MemoryWires {
     }
 }
 
-impl GivesUp for MemoryWires {}
+// They tell no peers, and give up no connection by themselves.
+impl GivesUp for MemoryWires {
+    ghost use Rattle.std.specs.Prelude.{None};
+
+    ghost peer_at = { λ _ _. None };
+
+    ghost given_up_at = { λ _ _. None };
+
+    ghost turned_away_last = { λ _. None };
+
+    fn peer(&self, _place: usize) -> Option<SocketAddr> {
+        None
+    }
+
+    fn given_up(&self, _place: usize) -> Option<GivenUp> {
+        None
+    }
+
+    fn turned_away(&self) -> Option<GivenUp> {
+        None
+    }
+}

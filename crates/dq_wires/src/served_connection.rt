@@ -1,6 +1,6 @@
 //! A connection that is held over wires.
-ghost use Rattle.std.specs.Prelude.{◌≡◌, ◌≤◌, ◌+◌, [], length, drop, false, MatchBool, IfErr, OnOk};
-ghost use Rattle.dq_wires.specs.HeldConnections.{new_held, with_reply};
+ghost use Rattle.std.specs.Prelude.{◌≡◌, ◌≤◌, ◌+◌, [], length, drop, true, false, IsTrue, MatchBool, IfErr, OnOk};
+ghost use Rattle.dq_wires.specs.HeldConnections.{new_held, with_reply, has_unsent};
 ghost use Rattle.dq_wires.specs.ConnectionActions.{IsSending};
 
 use crate::fault::TurnFault;
@@ -103,13 +103,16 @@ impl ServedConnection {
     }
 
     /// Whether there are any that were not yet offered.
-    pub(crate) fn is_new(&self) -> bool {
+    pub(crate) fn is_new(&self) -> bool
+        ensures { IsTrue result → has_unsent self.now ≡ true }
+    {
         self.is_new && self.is_sending()
     }
 
     /// Whether there are any.
     pub(crate) fn is_sending(&self) -> bool
-        ensures { MatchBool result (IsSending self.now) (self.now.unsent ≡ []) }
+        ensures sends { MatchBool result (IsSending self.now) (self.now.unsent ≡ []) }
+        ensures unsent { result ≡ has_unsent self.now }
     {
         !self.unsent().is_empty()
     }

@@ -1,5 +1,6 @@
 //! The sockets of connections, over TCP or of the machine itself.
-ghost use Rattle.std.specs.Prelude.{◌≤◌, length, IfOk};
+ghost use Rattle.std.specs.Prelude.{◌≡◌, ◌≤◌, length, true, false, is_some, IsOk, IfOk};
+ghost use Rattle.dq_wires.specs.Sockets.{is_tcp};
 
 use mio::event::Source;
 use mio::net::{TcpListener, TcpStream, UnixListener, UnixStream};
@@ -24,13 +25,17 @@ pub(crate) enum Door {
 
 impl Door {
     /// One at an address, on a port that the system chooses where it is 0.
-    pub(crate) fn at_address(net: &impl Net, address: SocketAddr) -> io::Result<Door> {
+    pub(crate) fn at_address(net: &impl Net, address: SocketAddr) -> io::Result<Door>
+        ensures { IfOk result (λ door. is_tcp door ≡ true) }
+    {
         Ok(Door::Tcp(TcpListener::bind(net, address)?))
     }
 
     /// One at a path, whose file is made for its owner alone. The file of a socket on which nobody
     /// listens goes. Whoever came before the file had its rights is turned away.
-    pub(crate) fn at_path<R: Files + Net>(rt: &R, path: &str) -> io::Result<Door> {
+    pub(crate) fn at_path<R: Files + Net>(rt: &R, path: &str) -> io::Result<Door>
+        ensures { IfOk result (λ door. is_tcp door ≡ false) }
+    {
         remove_stale(rt, path)?;
         let listener = UnixListener::bind(rt, path)?;
         fs::set_permissions(rt, path, Permissions::from_mode(OWNER_ALONE))?;
@@ -43,7 +48,9 @@ impl Door {
     }
 
     /// The address of one over TCP.
-    pub(crate) fn address(&self) -> io::Result<SocketAddr> {
+    pub(crate) fn address(&self) -> io::Result<SocketAddr>
+        ensures { IsOk result → is_tcp self.now ≡ true }
+    {
         match self {
             Door::Tcp(listener) => listener.local_addr(),
             Door::Unix(_) => Err(io::Error::from(ErrorKind::Unsupported)),
@@ -51,7 +58,9 @@ impl Door {
     }
 
     /// The next connection, with its peer's address where it has one.
-    pub(crate) fn accept(&self) -> io::Result<(Socket, Option<SocketAddr>)> {
+    pub(crate) fn accept(&self) -> io::Result<(Socket, Option<SocketAddr>)>
+        ensures { IfOk result (λ came. is_some came.1 ≡ is_tcp self.now) }
+    {
         match self {
             Door::Tcp(listener) => {
                 let (stream, peer) = listener.accept()?;
@@ -65,7 +74,9 @@ impl Door {
     }
 
     /// Has events tell when one has come.
-    pub(crate) fn register(&mut self, registry: &Registry, token: Token) -> io::Result<()> {
+    pub(crate) fn register(&mut self, registry: &Registry, token: Token) -> io::Result<()>
+        ensures { is_tcp self.new ≡ is_tcp self.old }
+    {
         match self {
             Door::Tcp(listener) => registry.register(listener, token, Interest::READABLE),
             Door::Unix(listener) => registry.register(listener, token, Interest::READABLE),

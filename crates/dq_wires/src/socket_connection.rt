@@ -1,6 +1,8 @@
 //! A connection over a socket, and when it is given up.
-ghost use Rattle.std.specs.Prelude.{◌≤◌, length, IfOk};
+ghost use Rattle.std.specs.Prelude.{◌≡◌, ◌≤◌, length, false, is_some, IsOk, IfOk};
 ghost use Rattle.dq_wires.specs.Logs.{IfGot};
+ghost use Rattle.dq_wires.specs.SocketTurns.{have_same_titles, is_waiting, goes_before, goes_on, goes_on_before, turn_begun, passed_over, put_off, heard_from};
+ghost use Rattle.dq_wires.specs.SocketLimits.{fresh_connection, learned, answered, woken, GrewOld, has_run_out, runs_artim, is_late, reason_to_end, ended_for, IsRead, IsReceived, IsSent, IsWritten, has_address, end_of};
 
 use crate::calls::{Progress, ReadTurn, WireFault};
 use crate::given_up::{GivenUp, Limits, Reason};
@@ -12,7 +14,7 @@ use std::net::SocketAddr;
 use std::time::Duration;
 
 /// How far a connection is.
-#[derive(Clone, Copy, PartialEq, Eq)]
+#[derive(Clone, Copy)]
 enum Stage {
     /// Nothing was answered: no A-ASSOCIATE-RQ has come whole.
     Unasked,
@@ -22,6 +24,28 @@ enum Stage {
     Open,
     /// The last PDU was answered.
     Closing,
+}
+
+impl Stage {
+    // Whether the ARTIM timer runs (PS3.8 section 9.1.5).
+    fn runs_artim(&self) -> bool
+        ensures { result ≡ runs_artim self.now }
+    {
+        match self {
+            Stage::Open => false,
+            Stage::Unasked | Stage::Overdue | Stage::Closing => true,
+        }
+    }
+}
+
+// Whether there is a limit, and so much time has passed.
+fn has_run_out(limit: Option<Duration>, passed: Duration) -> bool
+    ensures { result ≡ has_run_out limit passed }
+{
+    match limit {
+        Some(limit) => passed.as_nanos() >= limit.as_nanos(),
+        None => false,
+    }
 }
 
 /// Flags for what the system may have for a connection.
@@ -52,7 +76,9 @@ struct Share {
 
 impl Share {
     // Whether another has the same titles, or neither has told any.
-    fn is_alike(&self, other: &Share) -> bool {
+    fn is_alike(&self, other: &Share) -> bool
+        ensures { result ≡ have_same_titles self.now.titles other.now.titles }
+    {
         match (&self.titles, &other.titles) {
             (Some(own), Some(titles)) => own.are_alike(titles),
             (None, None) => true,
@@ -79,7 +105,9 @@ pub(crate) struct SocketConnection {
 
 impl SocketConnection {
     /// One that has just come.
-    pub(crate) fn new(socket: Socket, peer: Option<SocketAddr>) -> Self {
+    pub(crate) fn new(socket: Socket, peer: Option<SocketAddr>) -> Self
+        ensures { result ≡ fresh_connection socket peer }
+    {
         SocketConnection {
             socket,
             peer,
@@ -104,12 +132,16 @@ impl SocketConnection {
     }
 
     /// Its peer's address.
-    pub(crate) fn peer(&self) -> Option<SocketAddr> {
+    pub(crate) fn peer(&self) -> Option<SocketAddr>
+        ensures { result ≡ self.now.peer }
+    {
         self.peer
     }
 
     /// Its end, if it was given up.
-    pub(crate) fn given_up(&self) -> Option<GivenUp> {
+    pub(crate) fn given_up(&self) -> Option<GivenUp>
+        ensures { result ≡ end_of self.now }
+    {
         let reason = self.reason?;
         Some(GivenUp {
             peer: self.peer,
@@ -118,7 +150,9 @@ impl SocketConnection {
     }
 
     /// Whether its peer has the same address as another.
-    pub(crate) fn is_of(&self, peer: SocketAddr) -> bool {
+    pub(crate) fn is_of(&self, peer: SocketAddr) -> bool
+        ensures { result ≡ has_address self.now.peer peer }
+    {
         match self.peer {
             Some(own) => own.ip() == peer.ip(),
             None => false,
@@ -126,7 +160,9 @@ impl SocketConnection {
     }
 
     /// Takes what the system tells of the connection. Whatever that is, writing is tried.
-    pub(crate) fn wake(&mut self, event: &Event) {
+    pub(crate) fn wake(&mut self, event: &Event)
+        ensures { self.new ≡ woken event.now self.old }
+    {
         if event.is_read_closed() || event.is_error() {
             self.ready.is_ending = true;
         }
@@ -137,25 +173,33 @@ impl SocketConnection {
     }
 
     /// Begins a turn, in which it was not read yet.
-    pub(crate) fn begin_turn(&mut self) {
+    pub(crate) fn begin_turn(&mut self)
+        ensures { self.new ≡ turn_begun self.old }
+    {
         self.share.is_read = false;
     }
 
     /// Whether octets may be read, and none wait to be sent.
-    pub(crate) fn is_waiting(&self) -> bool {
+    pub(crate) fn is_waiting(&self) -> bool
+        ensures { result ≡ is_waiting self.now }
+    {
         self.ready.is_readable && !self.is_sending
     }
 
     /// Whether another leaves its read to it: both have the same titles, or told none yet, and it was
     /// passed over more often, or where reads have taken long was read already.
-    pub(crate) fn goes_before(&self, other: &SocketConnection, is_long: bool) -> bool {
+    pub(crate) fn goes_before(&self, other: &SocketConnection, is_long: bool) -> bool
+        ensures { result ≡ goes_before is_long self.now other.now }
+    {
         self.share.is_alike(&other.share)
             && (is_long && self.share.is_read
                 || self.is_waiting() && self.share.passed_over > other.share.passed_over)
     }
 
     /// Learns how far its association is.
-    pub(crate) fn learn(&mut self, progress: Progress) {
+    pub(crate) fn learn(&mut self, progress: Progress)
+        ensures { self.new ≡ learned progress self.old }
+    {
         self.share.titles = self.share.titles.or(progress.titles);
         if progress.is_over {
             self.stage = Stage::Closing;
@@ -164,61 +208,73 @@ impl SocketConnection {
     }
 
     /// Notes that it leaves its read to another.
-    pub(crate) fn give_way(&mut self) {
+    pub(crate) fn give_way(&mut self)
+        ensures { self.new ≡ passed_over self.old }
+    {
         self.share.passed_over = self.share.passed_over.saturating_add(1);
     }
 
     /// Whether what it is offered goes on with an answer, and the system may take it.
-    pub(crate) fn goes_on(&self) -> bool {
+    pub(crate) fn goes_on(&self) -> bool
+        ensures { result ≡ goes_on self.now }
+    {
         self.share.is_answered && self.ready.is_writable
     }
 
     /// Whether its answer waits to go on, and was put off more often than another's.
-    pub(crate) fn goes_on_before(&self, other: &SocketConnection) -> bool {
+    pub(crate) fn goes_on_before(&self, other: &SocketConnection) -> bool
+        ensures { result ≡ goes_on_before self.now other.now }
+    {
         self.goes_on() && self.is_sending && self.share.put_off > other.share.put_off
     }
 
     /// Notes that what it is offered is left to a later turn.
-    pub(crate) fn put_off(&mut self) {
+    pub(crate) fn put_off(&mut self)
+        ensures { self.new ≡ put_off self.old }
+    {
         self.is_sending = true;
         self.share.put_off = self.share.put_off.saturating_add(1);
     }
 
     /// Time has passed.
-    pub(crate) fn grow_old(&mut self, time: Duration) {
+    pub(crate) fn grow_old(&mut self, time: Duration)
+        ensures { GrewOld time self.old self.new }
+    {
         self.silence = self.silence.saturating_add(time);
         self.waited = self.waited.saturating_add(time);
     }
 
     // Whether the ARTIM timer runs, and has run out (PS3.8 section 9.1.5).
-    fn is_late(&self, limits: &Limits) -> bool {
-        match limits.artim {
-            Some(artim) => self.stage != Stage::Open && self.waited >= artim,
-            None => false,
-        }
+    fn is_late(&self, limits: &Limits) -> bool
+        ensures { result ≡ is_late limits.now self.now }
+    {
+        self.stage.runs_artim() && has_run_out(limits.artim, self.waited)
     }
 
     // Whether it is given up, now that nothing came or went on it.
-    fn is_over(&mut self, limits: &Limits) -> bool {
+    fn is_over(&mut self, limits: &Limits) -> bool
+        ensures over { result ≡ is_some (reason_to_end limits.now self.old) }
+        ensures reason { self.new ≡ ended_for (reason_to_end limits.now self.old) self.old }
+    {
         if self.is_late(limits) {
             self.reason = Some(Reason::Artim);
             return true;
         }
-        match limits.quiet {
-            Some(quiet) if self.silence >= quiet => {
-                self.reason = Some(Reason::Quiet);
-                true
-            }
-            _ => false,
+        if has_run_out(limits.quiet, self.silence) {
+            self.reason = Some(Reason::Quiet);
+            return true;
         }
+        false
     }
 
     /// Reads what came. Once the ARTIM timer has run out it is read once more: what came while
     /// others had their turn is no delay of the peer's.
     pub(crate) fn read(&mut self, buffer: &mut [u8], limits: &Limits) -> Result<ReadTurn, WireFault>
-        ensures { IfGot result (λ count. count ≤ length buffer.old) }
+        ensures bound { IfGot result (λ count. count ≤ length buffer.old) }
+        ensures read { IsRead limits.now self.old self.new result }
+        ensures overdue { self.old.stage ≡ Stage.Overdue → result ≡ Ok ReadTurn.Ended }
     {
-        if self.stage == Stage::Overdue {
+        if let Stage::Overdue = self.stage {
             self.reason = Some(Reason::Artim);
             return Ok(ReadTurn::Ended);
         }
@@ -229,18 +285,20 @@ impl SocketConnection {
                 }
                 Ok(ReadTurn::Nothing)
             }
-            turn => {
+            ReadTurn::Got(count) => {
                 if self.is_late(limits) {
                     self.stage = Stage::Overdue;
                 }
-                Ok(turn)
+                Ok(ReadTurn::Got(count))
             }
+            ReadTurn::Ended => Ok(ReadTurn::Ended),
         }
     }
 
     // Reads what the system has for it.
     fn receive(&mut self, buffer: &mut [u8]) -> Result<ReadTurn, WireFault>
-        ensures { IfGot result (λ count. count ≤ length buffer.old) }
+        ensures bound { IfGot result (λ count. count ≤ length buffer.old) }
+        ensures received { IsReceived self.old self.new result }
     {
         if !self.ready.is_readable {
             return Ok(ReadTurn::Nothing);
@@ -267,7 +325,9 @@ impl SocketConnection {
     }
 
     // Octets came.
-    fn take(&mut self) {
+    fn take(&mut self)
+        ensures { self.new ≡ heard_from self.old }
+    {
         self.share.is_read = true;
         self.share.passed_over = 0;
         self.share.is_answered = false;
@@ -276,11 +336,11 @@ impl SocketConnection {
 
     /// Writes the first of these octets.
     pub(crate) fn write(&mut self, octets: &[u8], limits: &Limits) -> Result<usize, WireFault>
-        ensures { IfOk result (λ count. count ≤ length octets.now) }
+        ensures bound { IfOk result (λ count. count ≤ length octets.now) }
+        ensures written { IsWritten limits.now (length octets.now) self.old self.new result }
+        ensures late { IsOk result → is_late limits.now (answered self.old) ≡ false }
     {
-        if self.stage != Stage::Closing {
-            self.stage = Stage::Open;
-        }
+        self.answer();
         if self.is_late(limits) {
             self.reason = Some(Reason::Artim);
             return Err(WireFault);
@@ -296,9 +356,20 @@ impl SocketConnection {
         }
     }
 
+    // Something is answered. After the last PDU the ARTIM timer goes on.
+    fn answer(&mut self)
+        ensures { self.new ≡ answered self.old }
+    {
+        match self.stage {
+            Stage::Closing => {}
+            Stage::Unasked | Stage::Overdue | Stage::Open => self.stage = Stage::Open,
+        }
+    }
+
     // Writes as many octets as the system takes.
     fn send(&mut self, octets: &[u8]) -> Result<usize, WireFault>
-        ensures { IfOk result (λ count. count ≤ length octets.now) }
+        ensures bound { IfOk result (λ count. count ≤ length octets.now) }
+        ensures sent { IsSent (length octets.now) self.old self.new result }
     {
         if !self.ready.is_writable {
             return Ok(0);

@@ -1,9 +1,14 @@
 //! Wires over sockets.
-ghost use Rattle.std.specs.Prelude.{◌≡◌};
+ghost use Rattle.std.specs.Prelude.{◌≡◌, ◌≤◌, true, length, Some, None, Ok, IsOk, IfOk, IfSome};
+ghost use Rattle.dq_wires.specs.Logs.{IfGot};
+ghost use Rattle.dq_wires.specs.SocketLimits.{crowded_end};
+ghost use Rattle.dq_wires.specs.SocketTurns.{is_preceded, is_behind};
+ghost use Rattle.dq_wires.specs.Sockets.{IsIdle, BeginsTurn, IsOffered, IsShared, is_recent, is_tcp, is_put_off, TakesTurn};
 
 use crate::calls::{Progress, ReadTurn, WireFault};
 use crate::given_up::{GivenUp, GivesUp, Limits, Reason};
 use crate::limits::MOST_WIRES;
+use crate::slots;
 use crate::socket::{Door, Socket};
 use crate::socket_connection::SocketConnection;
 use crate::wires::Wires;
@@ -70,25 +75,28 @@ struct Reading {
 
 impl SocketWires {
     /// Listens at an address, on a port that the system chooses where it is 0.
-    pub fn listen(alloc: Global, rt: &HostRuntime, address: SocketAddr) -> io::Result<Self> {
+    pub fn listen(alloc: Global, rt: &HostRuntime, address: SocketAddr) -> io::Result<Self>
+        ensures { IfOk result IsIdle }
+    {
         Self::behind(alloc, rt, Door::at_address(rt, address)?)
     }
 
     /// Listens at a path, for connections of the machine itself. The file is its owner's alone. Where
     /// the file of a socket is there on which nobody listens, it is made anew.
-    pub fn listen_at(alloc: Global, rt: &HostRuntime, path: &str) -> io::Result<Self> {
+    pub fn listen_at(alloc: Global, rt: &HostRuntime, path: &str) -> io::Result<Self>
+        ensures { IfOk result IsIdle }
+    {
         Self::behind(alloc, rt, Door::at_path(rt, path)?)
     }
 
     // Over the connections that come to a listening socket.
-    fn behind(alloc: Global, rt: &HostRuntime, mut door: Door) -> io::Result<Self> {
+    fn behind(alloc: Global, rt: &HostRuntime, mut door: Door) -> io::Result<Self>
+        ensures { IfOk result IsIdle }
+    {
         let poll = Poll::new(rt)?;
         door.register(poll.registry(), LISTENER)?;
         let events = Events::with_capacity(alloc, MOST_EVENTS)?;
-        let mut connections = Vec::new(alloc);
-        for _ in 0..MOST_WIRES {
-            connections.push(None)?;
-        }
+        let connections = slots::none(alloc)?;
         Ok(SocketWires {
             clock: *rt,
             poll,
@@ -108,13 +116,17 @@ impl SocketWires {
     }
 
     /// The address at which it listens.
-    pub fn address(&self) -> io::Result<SocketAddr> {
+    pub fn address(&self) -> io::Result<SocketAddr>
+        ensures { IsOk result → is_tcp self.now.door ≡ true }
+    {
         self.door.address()
     }
 
     /// Gives up connections from now on as these limits say, and at first none. Time is counted from
     /// rest to rest.
-    pub fn set_limits(&mut self, limits: Limits) {
+    pub fn set_limits(&mut self, limits: Limits)
+        ensures { self.new ≡ record self.old { limits = limits } }
+    {
         self.limits = limits;
     }
 
@@ -130,24 +142,26 @@ impl SocketWires {
     }
 
     /// Begins a turn: nothing was done in it yet.
-    pub fn begin_turn(&mut self) {
+    pub fn begin_turn(&mut self)
+        ensures { BeginsTurn self.old self.new }
+    {
         self.is_busy = false;
         self.has_gone_on = false;
         self.reading = Reading {
             was_short: self.reading.is_short,
             ..Reading::default()
         };
-        for slot in self.connections.iter_mut() {
-            if let Some(connection) = slot {
-                connection.begin_turn();
-            }
-        }
+        slots::begin_turn(self.connections.as_mut_slice());
     }
 
     // Whether the system was asked lately.
-    fn is_fresh(&self, now: Instant) -> bool {
+    fn is_fresh(&self, now: Instant) -> bool
+        ensures { result ≡ is_recent now self.now.rested }
+    {
         match self.rested {
-            Some(before) => now.duration_since(before) < Duration::from_millis(SHORT),
+            Some(before) => {
+                now.duration_since(before).as_nanos() < Duration::from_millis(SHORT).as_nanos()
+            }
             None => false,
         }
     }
@@ -170,7 +184,10 @@ impl SocketWires {
     }
 
     // The time since the system was last asked has passed on each connection.
-    fn grow_old(&mut self, now: Instant) {
+    fn grow_old(&mut self, now: Instant)
+        ensures rested { self.new.rested ≡ Some now }
+        ensures others { self.new ≡ record self.old { rested = Some now; connections = self.new.connections } }
+    {
         if let Some(before) = self.rested {
             let time = now.duration_since(before);
             for slot in self.connections.iter_mut() {
@@ -209,13 +226,15 @@ impl SocketWires {
     }
 
     /// Whether calls did something in this turn.
-    pub fn is_busy(&self) -> bool {
+    pub fn is_busy(&self) -> bool
+        ensures { result ≡ self.now.is_busy }
+    {
         self.is_busy
     }
 
     // Whether reads have taken long since the first one after a rest.
     fn is_long(&mut self) -> bool
-        ensures { self.new.failed_accepts ≡ self.old.failed_accepts }
+        ensures { self.new ≡ record self.old { reading = record self.old.reading { begun = self.new.reading.begun } } }
     {
         let Ok(now) = Instant::now(&self.clock) else {
             return false;
@@ -229,10 +248,10 @@ impl SocketWires {
     // the same titles: to one that was passed over more often, and where reads have taken long also to
     // one that was read.
     fn gives_way(&mut self, place: usize) -> bool
-        ensures { self.new.failed_accepts ≡ self.old.failed_accepts }
+        ensures { IsShared place self.old self.new result }
     {
-        match self.connections.get(place) {
-            Some(Some(connection)) if connection.is_waiting() && connection.peer().is_some() => {}
+        match slots::connection_at(self.connections.as_slice(), place) {
+            Some(connection) if connection.is_waiting() && connection.peer().is_some() => {}
             _ => return false,
         }
         let is_long = self.is_long();
@@ -244,34 +263,28 @@ impl SocketWires {
         }
         self.is_busy = true;
         self.reading.is_short = true;
-        if let Some(Some(connection)) = self.connections.get_mut(place) {
-            connection.give_way();
-        }
+        slots::pass_over(self.connections.as_mut_slice(), place);
         true
     }
 
     // Whether there is one to which it leaves its read.
-    fn is_preceded(&self, place: usize, is_long: bool) -> bool {
-        let Some(Some(connection)) = self.connections.get(place) else {
-            return false;
-        };
-        for (at, slot) in self.connections.iter().enumerate() {
-            if let Some(other) = slot {
-                if at != place && other.goes_before(connection, is_long) {
-                    return true;
-                }
-            }
+    fn is_preceded(&self, place: usize, is_long: bool) -> bool
+        ensures { result ≡ is_preceded is_long place self.now.connections.items }
+    {
+        let slots = self.connections.as_slice();
+        match slots::connection_at(slots, place) {
+            Some(connection) => slots::has_precedent(slots, place, connection, is_long),
+            None => false,
         }
-        false
     }
 
     // Whether what goes on with an answer is left to a later turn. Each part of one is a page that had
     // to be found, so one answer goes on in a turn: that which was put off most often.
     fn is_put_off(&mut self, place: usize) -> bool
-        ensures { self.new.failed_accepts ≡ self.old.failed_accepts }
+        ensures { IsOffered place self.old self.new result }
     {
-        match self.connections.get(place) {
-            Some(Some(connection)) if connection.goes_on() => {}
+        match slots::connection_at(self.connections.as_slice(), place) {
+            Some(connection) if connection.goes_on() => {}
             _ => return false,
         }
         if !self.has_gone_on && !self.is_behind(place) {
@@ -279,33 +292,28 @@ impl SocketWires {
             return false;
         }
         self.is_busy = true;
-        if let Some(Some(connection)) = self.connections.get_mut(place) {
-            connection.put_off();
-        }
+        slots::put_off(self.connections.as_mut_slice(), place);
         true
     }
 
     // Whether another's answer goes on before that of the connection at a place.
-    fn is_behind(&self, place: usize) -> bool {
-        let Some(Some(connection)) = self.connections.get(place) else {
-            return false;
-        };
-        for slot in self.connections.iter() {
-            if let Some(other) = slot {
-                if other.goes_on_before(connection) {
-                    return true;
-                }
-            }
+    fn is_behind(&self, place: usize) -> bool
+        ensures { result ≡ is_behind place self.now.connections.items }
+    {
+        let slots = self.connections.as_slice();
+        match slots::connection_at(slots, place) {
+            Some(connection) => slots::has_older(slots, connection),
+            None => false,
         }
-        false
     }
 
     // The end of a connection of whose address there are as many as may be.
-    fn one_too_many(&self, peer: Option<SocketAddr>) -> Option<GivenUp> {
+    fn one_too_many(&self, peer: Option<SocketAddr>) -> Option<GivenUp>
+        ensures { result ≡ crowded_end self.now.limits.peer_connections peer self.now.connections.items }
+    {
         let most = self.limits.peer_connections?;
         let address = peer?;
-        let held = self.connections.iter().filter(|slot| is_of(slot, address));
-        if held.count() < most {
+        if slots::count_of(self.connections.as_slice(), address) < most {
             return None;
         }
         Some(GivenUp {
@@ -314,22 +322,73 @@ impl SocketWires {
         })
     }
 
+    // Takes in a connection that came, unless there are as many of its peer's address as may be.
+    fn admit(&mut self, place: usize, socket: Socket, peer: Option<SocketAddr>) -> Option<usize>
+        ensures turned_away { self.new.turned_away
+            ≡ crowded_end self.old.limits.peer_connections peer self.old.connections.items }
+        ensures came { IfSome result (λ _. self.new.turned_away ≡ None) }
+        ensures failed { self.new.failed_accepts ≡ self.old.failed_accepts }
+    {
+        self.is_busy = true;
+        self.turned_away = self.one_too_many(peer);
+        if self.turned_away.is_some() {
+            return None;
+        }
+        self.hold(place, socket, peer)
+    }
+
+    // Reads the connection at a place, unless it leaves its read to another.
+    fn read_in_turn(&mut self, place: usize, buffer: &mut [u8]) -> Result<ReadTurn, WireFault>
+        ensures turn { TakesTurn place self.old self.new result }
+        ensures bound { IfGot result (λ count. count ≤ length buffer.old) }
+        ensures failed { self.new.failed_accepts ≡ self.old.failed_accepts }
+    {
+        if self.gives_way(place) {
+            return Ok(ReadTurn::Nothing);
+        }
+        let Some(Some(connection)) = self.connections.get_mut(place) else {
+            return Err(WireFault);
+        };
+        match connection.read(buffer, &self.limits)? {
+            ReadTurn::Nothing => Ok(ReadTurn::Nothing),
+            turn => {
+                self.is_busy = true;
+                Ok(turn)
+            }
+        }
+    }
+
+    // Writes on the connection at a place, unless what it is offered is left to a later turn.
+    fn write_in_turn(&mut self, place: usize, octets: &[u8]) -> Result<usize, WireFault>
+        ensures waits { is_put_off place self.old ≡ true → result ≡ Ok 0 }
+        ensures bound { IfOk result (λ count. count ≤ length octets.now) }
+        ensures failed { self.new.failed_accepts ≡ self.old.failed_accepts }
+    {
+        if self.is_put_off(place) {
+            return Ok(0);
+        }
+        let Some(Some(connection)) = self.connections.get_mut(place) else {
+            return Err(WireFault);
+        };
+        match connection.write(octets, &self.limits)? {
+            0 => Ok(0),
+            count => {
+                self.is_busy = true;
+                Ok(count)
+            }
+        }
+    }
+
     // Holds a connection at a place, unless its peer is gone.
     fn hold(&mut self, place: usize, mut socket: Socket, peer: Option<SocketAddr>) -> Option<usize>
-        ensures { self.new.failed_accepts ≡ self.old.failed_accepts }
+        ensures turned_away { self.new.turned_away ≡ self.old.turned_away }
+        ensures place { IfSome result (λ at. at ≡ place) }
+        ensures failed { self.new.failed_accepts ≡ self.old.failed_accepts }
     {
         socket.register(self.poll.registry(), Token(place)).ok()?;
         let slot = self.connections.get_mut(place)?;
         *slot = Some(SocketConnection::new(socket, peer));
         Some(place)
-    }
-}
-
-// Whether a slot has a connection of an address.
-fn is_of(slot: &Option<SocketConnection>, peer: SocketAddr) -> bool {
-    match slot {
-        Some(connection) => connection.is_of(peer),
-        None => false,
     }
 }
 
@@ -361,14 +420,7 @@ impl Wires for SocketWires {
             return Ok(None);
         };
         match self.door.accept() {
-            Ok((socket, peer)) => {
-                self.is_busy = true;
-                self.turned_away = self.one_too_many(peer);
-                if self.turned_away.is_some() {
-                    return Ok(None);
-                }
-                Ok(self.hold(place, socket, peer))
-            }
+            Ok((socket, peer)) => { Ok(self.admit(place, socket, peer)) }
             Err(error) => {
                 if error.kind() == ErrorKind::WouldBlock {
                     self.is_called = false;
@@ -382,35 +434,11 @@ impl Wires for SocketWires {
     }
 
     fn read(&mut self, place: usize, buffer: &mut [u8]) -> Result<ReadTurn, WireFault> {
-        if self.gives_way(place) {
-            return Ok(ReadTurn::Nothing);
-        }
-        let Some(Some(connection)) = self.connections.get_mut(place) else {
-            return Err(WireFault);
-        };
-        match connection.read(buffer, &self.limits)? {
-            ReadTurn::Nothing => Ok(ReadTurn::Nothing),
-            turn => {
-                self.is_busy = true;
-                Ok(turn)
-            }
-        }
+        self.read_in_turn(place, buffer)
     }
 
     fn write(&mut self, place: usize, octets: &[u8]) -> Result<usize, WireFault> {
-        if self.is_put_off(place) {
-            return Ok(0);
-        }
-        let Some(Some(connection)) = self.connections.get_mut(place) else {
-            return Err(WireFault);
-        };
-        match connection.write(octets, &self.limits)? {
-            0 => Ok(0),
-            count => {
-                self.is_busy = true;
-                Ok(count)
-            }
-        }
+        self.write_in_turn(place, octets)
     }
 
     fn learn(&mut self, place: usize, progress: Progress) {
@@ -432,15 +460,23 @@ impl Wires for SocketWires {
 }
 
 impl GivesUp for SocketWires {
+    ghost use Rattle.dq_wires.specs.Sockets.{peer_of_place, end_of_place};
+
+    ghost peer_at = { peer_of_place };
+
+    ghost given_up_at = { end_of_place };
+
+    ghost turned_away_last = { λ sockets. sockets.turned_away };
+
     fn peer(&self, place: usize) -> Option<SocketAddr> {
-        match self.connections.get(place)? {
+        match slots::connection_at(self.connections.as_slice(), place) {
             Some(connection) => connection.peer(),
             None => None,
         }
     }
 
     fn given_up(&self, place: usize) -> Option<GivenUp> {
-        match self.connections.get(place)? {
+        match slots::connection_at(self.connections.as_slice(), place) {
             Some(connection) => connection.given_up(),
             None => None,
         }

@@ -1,12 +1,13 @@
 //! The server over wires.
 ghost use Rattle.std.specs.Prelude.{◌≡◌, [], IsTrue, None, Some, Err, false, true, IfOk, IfErr, IfSome, OnOk, OnErr};
+ghost use Rattle.std.specs.List.{list_any};
 ghost use Rattle.std.specs.Option.{option_copied};
 ghost use Rattle.dq_core.specs.Histories.{is_above};
 ghost use Rattle.dq_core.specs.Looking.{Looked, FailsToLook};
 ghost use Rattle.dq_wires.specs.ServerSteps.{Stepped, Moves, Fails};
-ghost use Rattle.dq_wires.specs.HeldConnections.{connection_with};
+ghost use Rattle.dq_wires.specs.HeldConnections.{connection_with, has_unsent};
 ghost use Rattle.dq_wires.specs.Turns.{TurnsWent, TurnsCut};
-ghost use Rattle.dq_wires.specs.Turners.{IsOrder, first_fault, EndsInFailedAccept, failures_after_turns};
+ghost use Rattle.dq_wires.specs.Turners.{IsOrder, first_fault, EndsInFailedAccept, failures_after_turns, is_searching};
 
 use crate::connection_set::ConnectionSet;
 use crate::fault::TurnFault;
@@ -114,22 +115,32 @@ impl<T: Tables> Turner<T> {
     }
 
     /// Whether octets were answered that are not yet written.
-    pub(crate) fn is_sending(&self) -> bool {
+    pub(crate) fn is_sending(&self) -> bool
+        ensures { result ≡ list_any has_unsent self.now.hold.held }
+    {
         self.holding.held.iter().any(|wire| wire.is_sending())
     }
 
     /// Whether a C-FIND is open.
-    pub(crate) fn is_pending(&self) -> bool {
-        self.holding
-            .held
-            .iter()
-            .any(|wire| self.server.pending(wire.number()))
+    pub(crate) fn is_pending(&self) -> bool
+        ensures { result ≡ list_any (is_searching self.now.server) self.now.hold.held }
+    {
+        self.holding.held.iter().any(|wire| self.is_searching(wire))
+    }
+
+    // Whether a C-FIND is open on a connection.
+    fn is_searching(&self, wire: &ServedConnection) -> bool
+        ensures { result ≡ is_searching self.now.server wire.now }
+    {
+        self.server.pending(wire.number())
     }
 
     /// Whether octets were answered that were not yet offered. The next turn then has something to
     /// do, whether or not anything comes.
-    pub fn has_new_answers(&self) -> bool {
-        self.holding.held.iter().any(|wire| wire.is_new())
+    pub fn has_new_answers(&self) -> bool
+        ensures { IsTrue result → list_any has_unsent self.now.hold.held ≡ true }
+    {
+        self.is_sending() && self.holding.held.iter().any(|wire| wire.is_new())
     }
 
     /// Steps an order of the console. A fault stops the turner.

@@ -1,6 +1,7 @@
 //! A connection that is told of in a log.
 ghost use Rattle.std.specs.Prelude.{◌≡◌};
 ghost use Rattle.dq_wires.specs.Lines.{ended_by, open_after};
+ghost use Rattle.dq_wires.specs.LogWords.{counted, counted_in, no_counts};
 ghost use Rattle.dq_wires.specs.Watching.{newly_watched};
 
 use dq_assoc::Service;
@@ -13,7 +14,7 @@ use std::net::SocketAddr;
 /// Counts of what was served over an association: how many objects were stored, how many C-FINDs
 /// were answered and by how many answers, how many messages of performed procedure steps were
 /// taken, and how many messages were refused.
-#[derive(Clone, Copy, Default)]
+#[derive(Clone, Copy)]
 pub(crate) struct ServedCounts {
     stores: u64,
     searches: u64,
@@ -56,13 +57,13 @@ impl Watched {
 
     /// Counts what is noted of it.
     pub(crate) fn count(&mut self, noted: &LogEvent, time: Timestamp)
-        ensures { self.new ≡ record self.old { opened = self.new.opened } }
+        ensures { self.new ≡ record self.old { opened = counted_in noted.now time self.old.opened } }
     {
         match noted {
             LogEvent::Accepted { .. } => {
                 self.opened = Some(Opened {
                     since: time,
-                    counts: ServedCounts::default(),
+                    counts: ServedCounts::none(),
                 });
             }
             LogEvent::Served {
@@ -92,8 +93,23 @@ impl Watched {
 }
 
 impl ServedCounts {
+    // Nothing was served yet.
+    fn none() -> Self
+        ensures { result ≡ no_counts }
+    {
+        ServedCounts {
+            stores: 0,
+            searches: 0,
+            answers: 0,
+            steps: 0,
+            refused: 0,
+        }
+    }
+
     // Counts a message of a service that was answered.
-    fn add(&mut self, service: Service, status: u16, answers: usize) {
+    fn add(&mut self, service: Service, status: u16, answers: usize)
+        ensures { self.new ≡ counted service status answers self.old }
+    {
         if status != status::SUCCESS && status != status::ELEMENTS_DISCARDED {
             self.refused = self.refused.saturating_add(1);
             return;

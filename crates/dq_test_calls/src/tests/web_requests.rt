@@ -117,7 +117,8 @@ fn question_in(alloc: Global, octets: &[u8]) -> Result<Question, Fail> {
     let Cut::Whole(request) = cut_off(octets) else {
         return Err("no request")?;
     };
-    match ask(alloc, &guard_of(alloc)?, &request)? {
+    let guard = guard_of(alloc)?;
+    match ask(alloc, judge(alloc, &guard, &request.head)?, &request)? {
         ParsedRequest::Question(question) => Ok(question),
         _ => Err("no question")?,
     }
@@ -224,12 +225,14 @@ fn searches_are_refused(rt: HostRuntime) -> Result<(), Fail> {
     let Cut::Whole(request) = cut_off(FOREIGN) else {
         return Err("no request")?;
     };
-    let asked = ask(rt.alloc(), &guard, &request)?;
+    let judgement = judge(rt.alloc(), &guard, &request.head)?;
+    let asked = ask(rt.alloc(), judgement, &request)?;
     assert!(rt; matches!(asked, ParsedRequest::Refused(Refusal::Key)));
     let Cut::Whole(request) = cut_off(MISSPELLED) else {
         return Err("no request")?;
     };
-    let ParsedRequest::Misspelled(word) = ask(rt.alloc(), &guard, &request)? else {
+    let judgement = judge(rt.alloc(), &guard, &request.head)?;
+    let ParsedRequest::Misspelled(word) = ask(rt.alloc(), judgement, &request)? else {
         return Err("no word")?;
     };
     assert_eq!(rt; word.as_str(), "limit=ROE");
@@ -246,7 +249,7 @@ fn leave_is_given_to_the_viewer(rt: HostRuntime) -> Result<(), Fail> {
     let Cut::Whole(request) = cut_off(PREFLIGHT) else {
         return Err("no request")?;
     };
-    let asked = ask(alloc, &guard, &request)?;
+    let asked = ask(alloc, judge(alloc, &guard, &request.head)?, &request)?;
     assert!(rt; matches!(asked, ParsedRequest::Preflight));
     let mut framing = framing_of(false, false);
     framing.viewer = guard.viewer_of(alloc, &request.head.fields)?;

@@ -1,7 +1,8 @@
 use Rattle.std.proofs.Common.{ℕ, List, sym, subst, option_copied}
 use Rattle.dq_web.specs.declared.keys.Right.{Right}
 use Rattle.dq_web.specs.Guards.{IsOpened}
-use Rattle.dq_web.specs.ParsedRequests.{right_of, owner_of_request}
+use Rattle.dq_web.specs.Aims.{right_of}
+use Rattle.dq_web.specs.ParsedRequests.{owner_of_request}
 use Rattle.dq_web.proofs.Orders.{Asks-owner, Asks-right}
 use Rattle.dq_web.proofs.laws.a_question_has_its_key.Goals as goal
 

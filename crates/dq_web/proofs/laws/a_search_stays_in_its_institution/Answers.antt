@@ -1,5 +1,6 @@
 use Rattle.std.proofs.Common.{ℕ, List, ◌++◌, codes, ap, sym, ◌∙◌, subst}
-use Rattle.dq_web.specs.ParsedRequests.{words_in, IsPathAndQuery}
+use Rattle.dq_web.specs.Aims.{IsAt}
+use Rattle.dq_web.specs.ParsedRequests.{words_in}
 use Rattle.dq_web.specs.Resources.{beneath}
 use Rattle.dq_web.proofs.Orders.{IsSearchAt-path, searches}
 use Rattle.dq_web.proofs.Taking.{TakesWords-institution}
@@ -9,7 +10,7 @@ pub returns : goal.returns
 returns c guard request question search asked is =
     let at = asked.let_in in
     let it = searches asked.aim.method asked.aim.resource asked.aim.query.now request.head.fields.body_form request.body.now question.asked search asked.asks is in
-    let below = IsSearchAt-path asked.aim.resource at.path it.0 at.at_resource it.1 in
+    let below = IsSearchAt-path asked.aim.resource at.aimed.path it.0 at.aimed.at_resource it.1 in
     let same = TakesWords-institution (words_in asked.aim.query.now) it.0 search it.2 in
     let path = below.1 ∙ ap (λ (name : List ℕ). codes "/" ++ beneath name below.0) (sym same) in
-    (below.0, (at.host, at.text, asked.aim.query.now, at.target, subst (λ (path : List ℕ). IsPathAndQuery at.text path asked.aim.query.now) path at.split))
+    (below.0, (at.host, asked.aim.query.now, subst (λ (path : List ℕ). IsAt request.head at.host path asked.aim.query.now) path at.aimed.at_path))

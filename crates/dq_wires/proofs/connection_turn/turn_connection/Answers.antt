@@ -4,7 +4,7 @@ use Rattle.dq_wires.proofs.connection_turn.turn_connection.Goals as goal
 
 pub returns-then-is_closed-clause-went : goal.returns-then-is_closed-clause-went
 returns-then-is_closed-clause-went g c =
-    went-closed _ _ _ c.if-is_sending.ensures (sym c.is_closed.ensures ∙ c.if-is_closed.true) c.place.ensures c.shut.ensures.told
+    went-closed _ _ _ c.if-is_sending.ensures.sends (sym c.is_closed.ensures ∙ c.if-is_closed.true) c.place.ensures c.shut.ensures.told
 
 pub receive-requires-clause-listening : goal.receive-requires-clause-listening
-receive-requires-clause-listening g c = (c.if-is_sending.ensures, (sym c.is_closed.ensures ∙ c.if-is_closed.false))
+receive-requires-clause-listening g c = (c.if-is_sending.ensures.sends, (sym c.is_closed.ensures ∙ c.if-is_closed.false))

@@ -5,6 +5,6 @@ pub returns-in_ok-refused-in-Refused : goal.returns-in_ok-refused-in-Refused
 returns-in_ok-refused-in-Refused c = (
   c.in-Refused.refusal,
   _,
-  inl (c.args.date, c.unread_framing-framing.ensures),
+  inl (c.in-Refused.ensures, (c.args.date, c.unread_framing-framing.ensures)),
   c.in_ok-refused-in-Refused.ensures,
 )
