@@ -1,6 +1,6 @@
 /* Refuses one allocation of a program: a library to be preloaded, for the suite of refused memory. It is no part of
  * the product. REFUSE_ALLOC=N refuses the Nth call of malloc, calloc, realloc or aligned allocation, counted from 1,
- * and makes the file that REFUSE_ALLOC_MARK names. */
+ * and makes the file that REFUSE_ALLOC_MARK names. Where REFUSE_ALLOC_WHILE names a file, calls count while it exists. */
 #define _GNU_SOURCE
 #include <dlfcn.h>
 #include <errno.h>
@@ -16,6 +16,7 @@ static int (*next_posix_memalign)(void **, size_t, size_t);
 static void *(*next_aligned_alloc)(size_t, size_t);
 static long refused_call;
 static long calls;
+static const char *counted;
 /* What is asked for while the library finds its functions comes from here. */
 static char early[4096];
 static size_t early_used;
@@ -29,10 +30,18 @@ __attribute__((constructor)) static void begin(void) {
     next_aligned_alloc = dlsym(RTLD_NEXT, "aligned_alloc");
     calls = 0;
     refused_call = wanted ? atol(wanted) : 0;
+    counted = getenv("REFUSE_ALLOC_WHILE");
+}
+
+static int is_counted(void) {
+    int before = errno;
+    int is_there = counted == NULL || access(counted, F_OK) == 0;
+    errno = before;
+    return is_there;
 }
 
 static int refuse(void) {
-    if (refused_call == 0 || ++calls != refused_call)
+    if (refused_call == 0 || !is_counted() || ++calls != refused_call)
         return 0;
     const char *mark = getenv("REFUSE_ALLOC_MARK");
     if (mark) {

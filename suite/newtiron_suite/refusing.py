@@ -1,4 +1,5 @@
-"""The library that refuses calls of the disk and of sockets (tools/refuse_file.c)."""
+"""The libraries that refuse calls of the disk and of sockets (tools/refuse_file.c), and allocations
+(tools/refuse_alloc.c)."""
 import os
 import pathlib
 import subprocess
@@ -6,10 +7,10 @@ import subprocess
 from .paths import TOP
 
 
-def made_library(folder: pathlib.Path) -> pathlib.Path:
-    """Makes the library in a folder, with the C compiler that CC names."""
-    library = folder / "refuse_file.so"
+def made_library(folder: pathlib.Path, name: str = "refuse_file") -> pathlib.Path:
+    """Makes a library in a folder, with the C compiler that CC names."""
+    library = folder / f"{name}.so"
     compiler = os.environ.get("CC") or "cc"
-    subprocess.run([compiler, "-O1", "-shared", "-fPIC", "-o", library, TOP / "tools/refuse_file.c",
+    subprocess.run([compiler, "-O1", "-shared", "-fPIC", "-o", library, TOP / f"tools/{name}.c",
                     "-ldl"], check=True)
     return library

@@ -17,6 +17,8 @@ notices 'two hospitals that share rows, over HTTP' 'both are filled alike' "$fro
 notices 'pages of another length' 'a hundred studies' "$front" "$(server web-pages-of:99)" searches
 notices 'a key of searches that is not met' 'a search' "$front" "$(server key-not-met:0010,0020)" searches
 notices 'a refusal that is told as done' 'an entry that is the same again' "$front" "$(server web-refuses-as:201)" entries
+notices 'pages of any length' 'large entries come once each' "$front" "$(server web-arrays-of:99999999)" entries
+notices 'a page that does not say that it is cut' 'large entries come once each' "$front" "$(server web-tells-no-rest)" entries
 notices 'an entry that is not kept' 'entries' "$front" "$(server socket-forgets)" entries
 notices 'JSON that is no entry' 'JSON, plain' "$front" "$(server web-reads-no-json)" entries
 notices 'a place that is not told' 'the place of what is wrong' "$front" "$(server web-tells-no-place)" entries
@@ -45,6 +47,8 @@ if command -v chromium > "$work/nothing"; then
         "$(server web-page-with:textContent:innerHTML)" lists
     notices 'a page in another order' 'the worklist opens on today, in the order of time' env PATIENCE=20 "$front" \
         "$(server 'web-page-with:(a > b) - (a < b):0')" lists
+    notices 'a page that reads one response of several' 'twelve items of 1 MB' env PATIENCE=20 "$front" \
+        "$(server 'web-page-with:while (part.isFull:while (false')" lists
     notices 'a page that asks nothing before it withdraws' 'a question before an item is withdrawn' env PATIENCE=20 "$front" \
         "$(server 'web-page-with:showModal:toString')" items
     notices 'a page that changes more than what was edited' 'and nothing else' env PATIENCE=20 "$front" \

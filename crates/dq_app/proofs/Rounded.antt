@@ -26,7 +26,7 @@ use Rattle.dq_wires.specs.Turners.{TurnerView}
 use Rattle.dq_wires.proofs.Logging.{logs-then, logs-none}
 use Rattle.dq_app.specs.declared.stop.Stop.{Stop}
 use Rattle.dq_app.specs.declared.stop.Stop.TheVariants as stop
-use Rattle.dq_console.specs.Console.{HeldClient, attending_calls, attending_acts, after_attending, interruption_acts, VisitsTell, Answering}
+use Rattle.dq_console.specs.Console.{HeldClient, attending_calls, attending_acts, after_attending, interruption_acts, VisitsTell, FrontTurn}
 use Rattle.dq_console.specs.Requests.{IsLeft}
 use Rattle.dq_console.specs.ClientTurns.{Attends, Interrupted}
 use Rattle.dq_app.specs.Program.{stop_of_turning}
@@ -35,7 +35,7 @@ use Rattle.dq_app.specs.Serving.{Round, round_acts, rounds_acts, console_calls, 
 use Rattle.dq_app.specs.Serving.Round.{Plain, Consoled}
 use Rattle.dq_app.specs.Serving.Halt.{InTurn, AtConsole}
 use Rattle.dq_app.specs.Rounds.{RoundsWent, RoundsCut, Beside, BesideCut, ConsoleView, AreBeside, AreBesideTo, IsAttended, IsInterrupted}
-use Rattle.dq_console.proofs.ServiceProgress.{TurnsServe, TurnsCutServe, WholeServes, StepsServe, holds-later, left-honest, went-nowhere, went-then, went-by-turns}
+use Rattle.dq_console.proofs.ServiceProgress.{TurnsServe, TurnsCutServe, WholeServes, StepsServe, holds-later, left-honest, failed-honest, went-nowhere, went-then, went-by-turns}
 
 -- no turn is whole of one that was cut off
 none-below : {X : Type 0} (xs : List X) → length xs < 1 → xs ≡ []
@@ -337,7 +337,7 @@ module _ {Tables : Type 0} (state : Tables → State) where
         );
       };
       causes = service-fault why;
-      was_honest = λ honest. went.was_honest ((at.acts after).was_honest (left-honest state at.left honest));
+      was_honest = λ honest. went.was_honest ((at.acts after).was_honest (failed-honest state at.left honest));
       off = λ rows start first done s.
           let all = went-then state went (at.acts after) in
           let later = all.serves rows start first done s in
@@ -345,14 +345,14 @@ module _ {Tables : Type 0} (state : Tables → State) where
             last = at.last.server;
             served = whole rows start after first at.last.server at.last.hold (done ++ (Turned turn ∷ interruption_acts at.it)) later;
             calls = rw append-nil later.calls;
-            left = at.left;
+            left = inr at.left;
           };
     }
     interrupted-round (turn ∷ more ∷ turns) one went = absurd (cc)
 
   -- a turn of all connections, and then one of the console
   module _ {before after : Option (List Call)} {old mid new : TurnerView Tables} (from to : ConsoleView) (named : to.names ≡ from.names)
-      {IsFront : Option Answering → Type 0}
+      {IsFront : FrontTurn → Type 0}
       (attends : Attends state from.names from.calls to.calls mid new from.clients to.clients IsFront) where
     consoled-round : (turns : List Turn) → length turns ≡ 1 → WentOn state before after old mid (all_turned turns)
         → RoundsWent state before after old new 1 (Beside state before old new.server from to)

@@ -1,10 +1,10 @@
--- The effect of a response on a web front, if there is one, and of reading its keys anew.
+-- The effect of a response on a web front, if there is one, of letting go who asks it, and of reading its keys anew.
 use Rattle.std.specs.Prelude.{◌≡◌, ◌≢◌, ℕ, List, Option, Some, None, IfSome, Result, Ok, Err}
 use Rattle.dq_console.specs.declared.asks.KeysError.{KeysError}
 use Rattle.dq_console.specs.declared.asks.KeysError.TheVariants as keys_error
 use Rattle.dq_request.specs.declared.response.Response.{Response}
 use Rattle.dq_http.specs.declared.http_server.HttpServer.{HttpServer}
-use Rattle.dq_http.specs.RequestQueue.{Answered, with_keys}
+use Rattle.dq_http.specs.RequestQueue.{Answered, LetsGo, with_keys}
 use Rattle.dq_web.specs.declared.keys.Keys.{Keys}
 use Rattle.dq_web.specs.KeyFiles.{key_lines, AreSpelled}
 
@@ -12,6 +12,12 @@ abbrev pub IsAnswered : {Wired : Type 0} → Option (HttpServer Wired) → Optio
 IsAnswered (Some old) (Some new) response = Answered old new response
 IsAnswered None None response = Unit {0}
 IsAnswered old new response = ⊥
+
+-- Who asked is let go. Sockets do not tell their calls.
+abbrev pub IsLetGo : {Wired : Type 0} → Option (HttpServer Wired) → Option (HttpServer Wired) → Type 0
+IsLetGo (Some old) (Some new) = LetsGo None None old new
+IsLetGo None None = Unit {0}
+IsLetGo old new = ⊥
 
 -- The keys of a web front are now exactly those that the file spells, if its octets are known, and nothing else changed.
 -- At an error nothing did.

@@ -6,7 +6,7 @@ use Rattle.dq_config.specs.declared.config.Institution.{Institution}
 use Rattle.dq_core.specs.declared.event.Event.{Event}
 use Rattle.dq_core.specs.Histories.{opened_numbers}
 use Rattle.dq_wires.specs.declared.calls.Call.{Call}
-use Rattle.dq_wires.specs.declared.looping.Sent.{Sent}
+use Rattle.dq_wires.specs.declared.loopback.looping.Sent.{Sent}
 use Rattle.dq_wires.specs.Looping.{sent_number, ArePlayed}
 use Rattle.dq_wires.specs.Servings.{Act, nothing_held}
 use Rattle.dq_wires.specs.Turns.Cut.{NoRoom}

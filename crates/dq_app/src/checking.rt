@@ -18,7 +18,7 @@ use crate::stores::Stores;
 use dq_captures::{Folder, Sink, Unread};
 use dq_cli::Inspection;
 use dq_config::{Config, ConfigFault, Institution, Route};
-use dq_console::{Counting, counted, put_counted_line};
+use dq_console::{AnswerError, Counting, counted, put_counted_line};
 use dq_core::Fault;
 use dq_tables::Tables;
 use std::alloc::{AllocError, Global};
@@ -141,7 +141,7 @@ fn put_counted<C: Counting>(
     text: &mut Vec<u8>,
     counts: &mut C,
     institution: &Institution,
-) -> Result<(), Fault>
+) -> Result<(), AnswerError>
     ensures lines { C.is_honest counts.new → OnOk result (text.new.items ≡ text.old.items
         ++ counted_lines (C.rows counts.old) institution.now) }
     ensures leads { OnOk result (C.leads counts.old counts.new) }
@@ -157,7 +157,7 @@ fn counted_list_of<C: Counting>(
     alloc: Global,
     counts: &mut C,
     institutions: &[Institution],
-) -> Result<Vec<u8>, Fault>
+) -> Result<Vec<u8>, AnswerError>
     ensures lines { C.is_honest counts.new → IfOk result (λ text. text.items
         ≡ counted_check_text (C.rows counts.old) institutions.now) }
     ensures leads { OnOk result (C.leads counts.old counts.new) }
@@ -181,7 +181,8 @@ fn list_over<T: Tables + Drop>(
     ensures fault { IfErr result (λ fault. fault ≢ Fault.Stopped) }
 {
     let mut kept = Kept { tables };
-    counted_list_of(alloc, &mut kept, institutions)
+    let text = counted_list_of(alloc, &mut kept, institutions)?;
+    Ok(text)
 }
 
 /// Returns the list that a check prints: institutions, with their rows in the store at a path, if

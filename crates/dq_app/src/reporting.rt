@@ -5,6 +5,7 @@ ghost use Rattle.dq_core.specs.declared.fault.Fault.{Fault};
 ghost use Rattle.dq_core.specs.Histories.{is_well_formed_history};
 ghost use Rattle.dq_core.specs.Shared.{world_after};
 ghost use Rattle.dq_cli.specs.declared.parsed_command.Task.TheVariants.{Report};
+ghost use Rattle.dq_console.specs.Requests.{fault_of};
 ghost use Rattle.dq_app.specs.Program.{text_of, Breaks, EndsTask, AsFarAsHonest, AreOnlyRead};
 ghost use Rattle.dq_captures.specs.Reports.{names_of, report_text};
 
@@ -13,7 +14,7 @@ use crate::replay_output::outcome_of;
 use crate::stop::Stop;
 use dq_captures::Sink;
 use dq_config::Institution;
-use dq_console::{Counting, all_counted, counted_text};
+use dq_console::{AnswerError, Counting, all_counted, counted_text};
 use dq_core::{Fault, Outcome};
 use dq_list::Listed;
 use dq_tables::{Kind, Tables};
@@ -34,10 +35,13 @@ impl<T: Tables> Counting for Kept<T> {
 
     ghost leads = { λ old new. AreOnlyRead (T.state old.tables) (T.state new.tables) };
 
-    ghost fails = { λ _ _ fault. fault ≢ Fault.Stopped };
+    ghost fails = { λ _ _ error. fault_of error ≢ Fault.Stopped };
 
-    fn count_rows(&mut self, kind: Kind, name: &[u8]) -> Result<u64, Fault> {
-        Ok(self.tables.count(kind, name)?)
+    fn count_rows(&mut self, kind: Kind, name: &[u8]) -> Result<u64, AnswerError> {
+        match self.tables.count(kind, name) {
+            Ok(count) => Ok(count),
+            Err(fault) => Err(AnswerError::Server(Fault::from(fault))),
+        }
     }
 
     ghost leads_nowhere = { λ it honest. (honest, refl) };
@@ -88,7 +92,7 @@ fn lines_of<C: Counting>(
     alloc: Global,
     rows: &mut C,
     names: &[Listed<u8>],
-) -> Result<Vec<u8>, Fault>
+) -> Result<Vec<u8>, AnswerError>
     ensures lines { C.is_honest rows.new → IfOk result (λ text. text.items
         ≡ report_text (C.rows rows.old) names.now) }
     ensures leads { OnOk result (C.leads rows.old rows.new) }

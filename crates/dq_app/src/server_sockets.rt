@@ -365,11 +365,13 @@ impl HttpSockets {
 impl Asks for HttpSockets {
     ghost use Rattle.std.specs.Option.{option_and_then};
     ghost use Rattle.dq_http.specs.RequestQueue.{next_of};
-    ghost use Rattle.dq_app.specs.HttpAnswers.{IsAnswered, AreReread};
+    ghost use Rattle.dq_app.specs.HttpAnswers.{IsAnswered, IsLetGo, AreReread};
 
     ghost waiting = { λ sockets. option_and_then next_of sockets.front };
 
     ghost answers = { λ old new response. IsAnswered old.front new.front response };
+
+    ghost lets_go = { λ old new. IsLetGo old.front new.front };
 
     ghost rereads = { λ old new outcome. AreReread old.front new.front outcome };
 
@@ -383,6 +385,12 @@ impl Asks for HttpSockets {
     fn answer(&mut self, response: &Response) {
         if let Some(front) = &mut self.front {
             front.answer(response);
+        }
+    }
+
+    fn let_go(&mut self) {
+        if let Some(front) = &mut self.front {
+            front.let_go();
         }
     }
 

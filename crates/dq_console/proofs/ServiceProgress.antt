@@ -25,16 +25,19 @@ use Rattle.dq_wires.specs.Turners.{TurnerView, IsOrder}
 use Rattle.dq_request.specs.declared.request.Request.{Request}
 use Rattle.dq_request.specs.declared.request.Request.TheVariants as request
 use Rattle.dq_request.specs.declared.response.Response.{Response}
+use Rattle.dq_console.specs.declared.answer_error.AnswerError.{AnswerError}
+use Rattle.dq_console.specs.declared.answer_error.AnswerError.TheVariants.{NoMemory, Server}
 use Rattle.dq_console.specs.declared.asks.KeysError.{KeysError}
 use Rattle.dq_console.specs.declared.console_line.ConsoleLine.{ConsoleLine}
 use Rattle.dq_console.specs.declared.console_line.ConsoleLine.TheVariants as line
-use Rattle.dq_console.specs.Console.{HeldClient, client_with_answer, rows_after, Answering, OrdersOnce, IsAnswer, TellsOf, IsUnanswered, IsLineUnanswered}
+use Rattle.dq_console.specs.Console.{HeldClient, client_with_answer, rows_after, FrontTurn, OrdersOnce, IsAnswer, TellsOf, IsUnanswered, IsLineUnanswered}
 use Rattle.dq_console.specs.Console.LineAnswer.{Obeyed, Reread, Refused, Unread}
+use Rattle.dq_console.specs.Console.FrontTurn.{Unasked, Responded, LetGo}
 use Rattle.dq_console.specs.RequestNotes.{is_bad}
 use Rattle.dq_console.specs.ServiceProgress.{WentOn, Attended, Holds, HoldsAt}
-use Rattle.dq_console.specs.ClientTurns.{Does, Halted, HaltedBy, Responds, RespondedBy, LineAnswered, LineUnanswered}
+use Rattle.dq_console.specs.ClientTurns.{Does, IsNotObeyed, IsNotAnswered, Responds, RespondedBy, LineAnswered, LineUnanswered}
 use Rattle.dq_console.specs.ConsoleLines.{SpellsRequest, TellsLine}
-use Rattle.dq_console.specs.Requests.{Orders, Answered, order_in, IsLeft, LooksInPart, OrdersInPart, Unanswered}
+use Rattle.dq_console.specs.Requests.{Orders, Answered, order_in, HasFailed, IsLeft, LooksInPart, OrdersInPart, Unanswered}
 
 module _ {Tables : Type 0} (state : Tables → State) where
   -- the laws of servings that are used
@@ -217,10 +220,13 @@ module _ {Tables : Type 0} (state : Tables → State) where
     }
 
   -- what is honest after a fault was so before
+  pub failed-honest : {last new : ServerView Tables} → HasFailed state last new → (state new.tables).honest → (state last.tables).honest
+  failed-honest (inl (event, why, fails)) honest = fails.goes.was_honest honest
+  failed-honest (inr (why, fails)) honest = fails.goes.was_honest honest
+
   pub left-honest : {last new : ServerView Tables} → IsLeft state last new → (state new.tables).honest → (state last.tables).honest
   left-honest (inl same) honest = subst (λ (server : ServerView Tables). (state server.tables).honest) same honest
-  left-honest (inr (inl (event, why, fails))) honest = fails.goes.was_honest honest
-  left-honest (inr (inr (why, fails))) honest = fails.goes.was_honest honest
+  left-honest (inr failed) honest = failed-honest failed honest
 
   -- a turner as it was, but for its server
   abbrev at-server : TurnerView Tables → ServerView Tables → TurnerView Tables
@@ -234,32 +240,27 @@ module _ {Tables : Type 0} (state : Tables → State) where
 
   -- it was done, and there is no memory for its answer
   pub unanswered-after : (copied : List Row → Type 0) (names : List (List ℕ)) (old new : ServerView Tables) (asked : Request) (answer : Response)
-      → Answered state copied names old new asked answer → Unanswered state old new asked
-  unanswered-after copied names old new (request.Search it) answer is = (new, is.0, inl refl)
-  unanswered-after copied names old new (request.Counts name) answer is = (new, is.0, inl refl)
-  unanswered-after copied names old new request.Report answer is = (new, is.0, inl refl)
-  unanswered-after copied names old new (request.Schedule institution octets) answer is = inr (inr (is.0, is.1))
-  unanswered-after copied names old new (request.Withdraw institution id) answer is = inr (inr (is.0, is.1))
-  unanswered-after copied names old new (request.Backup path) answer is = (new, is.looked, inl refl)
+      → Answered state copied names old new asked answer → Unanswered state old new asked NoMemory
+  unanswered-after copied names old new (request.Search it) answer is = (new, is.0, refl)
+  unanswered-after copied names old new (request.Counts name) answer is = (new, is.0, refl)
+  unanswered-after copied names old new request.Report answer is = (new, is.0, refl)
+  unanswered-after copied names old new (request.Schedule institution octets) answer is = inr (is.0, is.1)
+  unanswered-after copied names old new (request.Withdraw institution id) answer is = inr (is.0, is.1)
+  unanswered-after copied names old new (request.Backup path) answer is = (new, is.looked, refl)
 
-  -- nothing was done
-  pub halted-before : (old : TurnerView Tables) (asked : Request) → HaltedBy state old old asked
-  halted-before old asked =
-      record { order = None; is = tt; last = old; acts = λ log. went-nowhere log old; left = inl refl }
-
-  -- what the web front asked was answered, or nothing was asked
-  pub none-responded : {IsFront : Option Answering → Type 0} (names : List (List ℕ)) (it : TurnerView Tables) → IsFront None
+  -- the web front had its turn: nothing was asked
+  pub none-responded : {IsFront : FrontTurn → Type 0} (names : List (List ℕ)) (it : TurnerView Tables) → IsFront Unasked
       → RespondedBy state names it it IsFront
   none-responded names it is = record {
-    asked = None;
+    asked = Unasked;
     are = tt;
     acts = λ log. went-nowhere log it;
     tells = λ now honest rows start first done s. tt;
     front = is;
   }
 
-  pub responded-as : {IsFront IsMore : Option Answering → Type 0} (names : List (List ℕ)) (old new : TurnerView Tables)
-      → ((asked : Option Answering) → IsFront asked → IsMore asked) → RespondedBy state names old new IsFront → RespondedBy state names old new IsMore
+  pub responded-as : {IsFront IsMore : FrontTurn → Type 0} (names : List (List ℕ)) (old new : TurnerView Tables)
+      → ((asked : FrontTurn) → IsFront asked → IsMore asked) → RespondedBy state names old new IsFront → RespondedBy state names old new IsMore
   responded-as names old new more responded = record {
     asked = responded.asked;
     are = responded.are;
@@ -268,64 +269,71 @@ module _ {Tables : Type 0} (state : Tables → State) where
     front = more responded.asked responded.front;
   }
 
-  pub one-responded : {IsFront : Option Answering → Type 0} (names : List (List ℕ)) (old new : TurnerView Tables) (asked : Request) (answer : Response)
-      → (one : Responds state names old new asked answer) → ((acts : List Act) → IsFront (Some (record { asked = asked; answer = answer; acts = acts })))
+  -- what was asked was answered
+  pub one-responded : {IsFront : FrontTurn → Type 0} (names : List (List ℕ)) (old new : TurnerView Tables) (asked : Request) (answer : Response)
+      → (one : Responds state names old new asked answer) → ((acts : List Act) → IsFront (Responded (record { asked = asked; answer = answer; acts = acts })))
       → RespondedBy state names old new IsFront
   one-responded names old new asked answer one is = record {
-    asked = Some (record { asked = asked; answer = answer; acts = one.stepped });
+    asked = Responded (record { asked = asked; answer = answer; acts = one.stepped });
     are = one.is;
     acts = one.acts;
     tells = one.tells;
     front = is one.stepped;
   }
 
-  -- there is no answer to a request, for a fault
-  module _ {old new : TurnerView Tables} (orders : OrdersServe) (looks : LooksServe) where
-    looks-halted : (asked : Request) → LooksInPart state old.server new.server → HaltedBy state old new asked
-    looks-halted asked looked = record {
-      order = None;
-      is = tt;
-      last = at-server old looked.0;
-      acts = went-by-look {old = old} {new = at-server old looked.0} refl refl looks looked.1;
-      left = looked.2;
+  -- there was no memory for the answer
+  pub none-answered : {IsFront : FrontTurn → Type 0} (names : List (List ℕ)) (old new : TurnerView Tables) (asked : Request)
+      → IsNotAnswered state old new asked NoMemory → ((order : Option (Event × Reply)) → IsFront (LetGo asked order)) → RespondedBy state names old new IsFront
+  none-answered names old new asked (order, of, acts) is = record {
+    asked = LetGo asked order;
+    are = of;
+    acts = acts;
+    tells = λ now honest rows start first done s. tt;
+    front = is order;
+  }
+
+  -- there is no answer to a request
+  module _ (old new : TurnerView Tables) (orders : OrdersServe) (looks : LooksServe) (hold : new.hold ≡ old.hold) where
+    looks-part : (asked : Request) (error : AnswerError) → (error ≡ NoMemory → new.fault ≡ old.fault)
+        → LooksInPart state old.server new.server error → IsNotAnswered state old new asked error
+    looks-part asked NoMemory fault part = (None, tt, went-by-look hold (fault refl) looks (rw part.2 part.1))
+    looks-part asked (Server why) fault part = record {
+      last = at-server old part.0;
+      acts = went-by-look {old = old} {new = at-server old part.0} refl refl looks part.1;
+      left = inr (why, part.2);
     }
 
-    order-halted : (asked : Request) (event : Event) → IsOrder event → order_in asked ≡ Some event
-        → OrdersInPart state old.server new.server event → HaltedBy state old new asked
-    order-halted asked event order is (inl same) =
-        record { order = None; is = tt; last = old; acts = λ log. went-nowhere log old; left = inl same }
-    order-halted asked event order is (inr (inl fails)) =
-        record { order = None; is = tt; last = old; acts = λ log. went-nowhere log old; left = inr (inl (event, fails.0, fails.1)) }
-    order-halted asked event order is (inr (inr stepped)) = record {
-      order = Some (event, stepped.0);
-      is = is;
-      last = at-server old new.server;
-      acts = went-by-order {old = old} {new = at-server old new.server} refl refl orders event stepped.0 order stepped.1;
-      left = inl refl;
-    }
+    order-part : (asked : Request) (event : Event) (error : AnswerError) → IsOrder event → order_in asked ≡ Some event
+        → (error ≡ NoMemory → new.fault ≡ old.fault) → OrdersInPart state old.server new.server event error → IsNotAnswered state old new asked error
+    order-part asked event NoMemory order is fault (inl same) = (None, tt, went-by-nothing hold (fault refl) same)
+    order-part asked event NoMemory order is fault (inr (reply, stepped)) =
+        (Some (event, reply), is, went-by-order hold (fault refl) orders event reply order stepped)
+    order-part asked event (Server why) order is fault fails =
+        record { last = old; acts = λ log. went-nowhere log old; left = inl (event, why, fails) }
 
-    pub request-halted : (asked : Request) → Unanswered state old.server new.server asked → HaltedBy state old new asked
-    request-halted (request.Search asked) looked = looks-halted (request.Search asked) looked
-    request-halted (request.Counts name) looked = looks-halted (request.Counts name) looked
-    request-halted request.Report looked = looks-halted request.Report looked
-    request-halted (request.Schedule institution octets) ordered =
-        order-halted (request.Schedule institution octets) (event.Schedule institution octets) tt refl ordered
-    request-halted (request.Withdraw institution id) ordered =
-        order-halted (request.Withdraw institution id) (event.Withdraw institution id) tt refl ordered
-    request-halted (request.Backup path) looked = looks-halted (request.Backup path) looked
+    pub not-answered : (asked : Request) (error : AnswerError) → (error ≡ NoMemory → new.fault ≡ old.fault)
+        → Unanswered state old.server new.server asked error → IsNotAnswered state old new asked error
+    not-answered (request.Search asked) error fault part = looks-part (request.Search asked) error fault part
+    not-answered (request.Counts name) error fault part = looks-part (request.Counts name) error fault part
+    not-answered request.Report error fault part = looks-part request.Report error fault part
+    not-answered (request.Schedule institution octets) error fault part =
+        order-part (request.Schedule institution octets) (event.Schedule institution octets) error tt refl fault part
+    not-answered (request.Withdraw institution id) error fault part =
+        order-part (request.Withdraw institution id) (event.Withdraw institution id) error tt refl fault part
+    not-answered (request.Backup path) error fault part = looks-part (request.Backup path) error fault part
 
     -- nor to a line
-    pub line-halted : (octets : List ℕ) (l : ConsoleLine) → TellsLine octets l → LineUnanswered state old.server new.server l → Halted state old new octets
-    line-halted octets (line.Asked asked) tells unanswered =
-        let halted = request-halted asked unanswered in
-        record {
-          order = halted.order;
-          is = of-line octets asked halted.order tells halted.is;
-          last = halted.last;
-          acts = halted.acts;
-          left = halted.left;
-        }
-    line-halted octets (line.Misspelled word) tells same =
-        record { order = None; is = tt; last = old; acts = λ log. went-nowhere log old; left = inl same }
-    line-halted octets line.Keys tells same = record { order = None; is = tt; last = old; acts = λ log. went-nowhere log old; left = inl same }
-    line-halted octets line.Bad tells same = record { order = None; is = tt; last = old; acts = λ log. went-nowhere log old; left = inl same }
+    of-asked : (octets : List ℕ) (asked : Request) (error : AnswerError) → SpellsRequest octets asked → IsNotAnswered state old new asked error
+        → IsNotObeyed state old new octets error
+    of-asked octets asked NoMemory tells (order, is, acts) = (order, of-line octets asked order tells is, acts)
+    of-asked octets asked (Server why) tells halted = halted
+
+    pub not-obeyed : (octets : List ℕ) (l : ConsoleLine) (error : AnswerError) → TellsLine octets l → (error ≡ NoMemory → new.fault ≡ old.fault)
+        → LineUnanswered state old.server new.server l error → IsNotObeyed state old new octets error
+    not-obeyed octets (line.Asked asked) error tells fault part = of-asked octets asked error tells (not-answered asked error fault part)
+    not-obeyed octets (line.Misspelled word) NoMemory tells fault same = (None, tt, went-by-nothing hold (fault refl) same)
+    not-obeyed octets line.Keys NoMemory tells fault same = (None, tt, went-by-nothing hold (fault refl) same)
+    not-obeyed octets line.Bad NoMemory tells fault same = (None, tt, went-by-nothing hold (fault refl) same)
+    not-obeyed octets (line.Misspelled word) (Server why) tells fault none = absurd none
+    not-obeyed octets line.Keys (Server why) tells fault none = absurd none
+    not-obeyed octets line.Bad (Server why) tells fault none = absurd none

@@ -1,5 +1,5 @@
 -- The turns of clients of the console, one after the other.
-use Rattle.std.proofs.Common.{◌≡◌, ◌<◌, ◌+◌, ℕ, List, [], ◌∷◌, ◌++◌, length, map, get_or, set, remove, Bool, true, false, Option, Some, Result, refl, sym, subst, ◌∙◌, ap, arith, append_assoc, length-append}
+use Rattle.std.proofs.Common.{◌≡◌, ◌<◌, ◌+◌, ℕ, List, [], ◌∷◌, ◌++◌, length, map, get_or, set, remove, Bool, true, false, Option, Some, None, Result, refl, sym, subst, ◌∙◌, ap, arith, append_assoc, length-append}
 use Rattle.std.specs.List.{flat_map}
 use Rattle.std.proofs.lemmas.List.{append-nil}
 use Rattle.dq_config.specs.declared.config.Institution.{Institution}
@@ -13,13 +13,16 @@ use Rattle.dq_wires.specs.Servings.{Act}
 use Rattle.dq_wires.specs.Turners.{TurnerView}
 use Rattle.dq_wires.proofs.Logging.{logs-then, logs-none}
 use Rattle.dq_wires.proofs.TurnSequences.{flat_map-more, map-more, get-at, set-at, remove-at}
-use Rattle.dq_console.specs.Console.{HeldClient, HasLine, first_line, without_line, TakesMore, client_with_answer, line_answer_text, is_unread, client_turn_calls, after_client_turn, letting_calls, Visit, IsVisit, AreVisits, client_of, clients_kept, visit_calls, visit_acts, shut_calls, ClientTurnTells, VisitsTell, Answering, AskedTells}
-use Rattle.dq_console.specs.Console.Stopping.{AtLine, AtRequest}
+use Rattle.dq_console.specs.Console.{HeldClient, HasLine, first_line, without_line, TakesMore, client_with_answer, line_answer_text, is_unread, client_turn_calls, after_client_turn, letting_calls, Visit, IsVisit, AreVisits, client_of, clients_kept, visit_calls, visit_acts, shut_calls, ClientTurnTells, VisitsTell, IsClientTurn, IsLineUnanswered, FrontTurn, AskedTells}
+use Rattle.dq_console.specs.Console.Stopping.{AtLine, AtFront}
 use Rattle.dq_console.specs.Console.ClientTurn.{Took, Forgotten}
-use Rattle.dq_console.specs.ClientTurns.{Writes, Quiet, Does, LetsIn, HaltedAt, HaltedAtFront, ClientTurnMade, Visited, AllVisited, SomeVisited, RespondedBy, Attends, Interrupted}
+use Rattle.dq_console.specs.ClientTurns.{Writes, Quiet, Does, LetsIn, HaltedAt, Halted, IsNotObeyed, ClientTurnMade, Visited, AllVisited, SomeVisited, RespondedBy, Attends, Interrupted}
+use Rattle.dq_core.specs.declared.event.Event.{Event}
+use Rattle.dq_core.specs.declared.event.Reply.{Reply}
+use Rattle.dq_console.specs.declared.answer_error.AnswerError.TheVariants.{NoMemory}
 use Rattle.dq_console.specs.declared.asks.KeysError.{KeysError}
-use Rattle.dq_console.specs.ServiceProgress.{Attended, Holds}
-use Rattle.dq_console.proofs.ServiceProgress.{went-nowhere, went-then, holds-later, left-honest}
+use Rattle.dq_console.specs.ServiceProgress.{WentOn, Attended, Holds}
+use Rattle.dq_console.proofs.ServiceProgress.{went-nowhere, went-then, holds-later, failed-honest}
 
 visits-more : (visits : List Visit) (v : Visit) → AreVisits visits → IsVisit v → AreVisits (visits ++ v ∷ [])
 visits-more [] v a h = (h, tt)
@@ -41,6 +44,10 @@ module _ {Tables : Type 0} (state : Tables → State) where
   pub attended-then : {old mid new : TurnerView Tables} {acts later : List Act} → Attended state old mid acts → Attended state mid new later
       → Attended state old new (acts ++ later)
   attended-then one next = λ log. went-then state (one log) (next log)
+
+  attended-still : {old mid new : TurnerView Tables} {acts : List Act} → Attended state old mid acts → Attended state mid new [] → Attended state old new acts
+  attended-still {old} {mid} {new} {acts} one next = λ log.
+      subst (λ (all : List Act). WentOn state log log old new all) (append-nil acts) (went-then state (one log) (next log))
 
 module _ {Tables : Type 0} (state : Tables → State) (names : List (List ℕ)) where
   -- who is gone is shut
@@ -89,14 +96,19 @@ module _ {Tables : Type 0} (state : Tables → State) (names : List (List ℕ)) 
     tells = λ now honest rows start first done s. quiet.tells first.institutions names rows done;
   }
 
-  -- there was no memory for a line
-  pub client-turn-forgotten : {before after : Option (List Call)} {old new : TurnerView Tables} {client next : HeldClient} → TakesMore client → after ≡ before
-      → new ≡ old → ClientTurnMade state names before after old new client next false
-  client-turn-forgotten {before} {old = old} listening same is = record {
-    client_turn = Forgotten;
-    is = listening;
+  forgotten : (client : HeldClient) (order : Option (Event × Reply)) → TakesMore client → HasLine client.came
+      → IsLineUnanswered (first_line client.came) order → IsClientTurn client (Forgotten order)
+  forgotten client None listening has is = listening
+  forgotten client (Some order) listening has is = (listening, has, is)
+
+  -- there was no memory for a line, or for its answer
+  pub client-turn-forgotten : {before after : Option (List Call)} {old new : TurnerView Tables} {client next : HeldClient} → TakesMore client → HasLine client.came
+      → after ≡ before → IsNotObeyed state old new (first_line client.came) NoMemory → ClientTurnMade state names before after old new client next false
+  client-turn-forgotten {before} {client = client} listening has same (order, is, acts) = record {
+    client_turn = Forgotten order;
+    is = forgotten client order listening has is;
     calls = rw same (logs-none before);
-    acts = λ log. rw is (went-nowhere state log old);
+    acts = acts;
     leaves = refl;
     tells = λ now honest rows start first done s. tt;
   }
@@ -241,20 +253,18 @@ module _ {Tables : Type 0} (state : Tables → State) (names : List (List ℕ)) 
             calls = rw is.2 so.calls;
             listening = is.0;
             has = is.1;
-            order = is.3.order;
-            is = is.3.is;
             last = is.3.last;
-            acts = attended-then state so.acts is.3.acts;
+            acts = attended-still state so.acts is.3.acts;
             left = is.3.left;
-            tells = λ log honest. so.tells log ((is.3.acts log).was_honest (left-honest state is.3.left honest));
+            tells = λ log honest. so.tells log ((is.3.acts log).was_honest (failed-honest state is.3.left honest));
           }
 
   -- a turn that was interrupted at a line
   pub interrupts : {before mid after : Option (List Call)} {old new : TurnerView Tables} {from via : List HeldClient} → LetsIn before mid from via
       → SomeVisited state names mid after old new via → Interrupted state names before after old new from
   interrupts {before} {mid} {after} lets some = record {
-    it = record { letting = lets.letting; visits = some.visits; at = AtLine some.client some.others; order = some.order };
-    is = record { lets = lets.lets; each = some.each ∙ lets.leaves; are = some.are; stops = (some.listening, some.has, some.is) };
+    it = record { letting = lets.letting; visits = some.visits; at = AtLine some.client some.others };
+    is = record { lets = lets.lets; each = some.each ∙ lets.leaves; are = some.are; stops = (some.listening, some.has) };
     calls = logs-then before mid after (letting_calls lets.letting) (flat_map visit_calls some.visits) lets.calls some.calls;
     last = some.last;
     acts = some.acts;
@@ -264,24 +274,24 @@ module _ {Tables : Type 0} (state : Tables → State) (names : List (List ℕ)) 
 
   -- a turn that was interrupted at the request of the web front
   pub interrupts-front : {before mid after : Option (List Call)} {old one new : TurnerView Tables} {from via to : List HeldClient} → LetsIn before mid from via
-      → AllVisited state names mid after old one via to → HaltedAtFront state one new → Interrupted state names before after old new from
-  interrupts-front {before} {mid} {after} lets all (asked, halted) = record {
-    it = record { letting = lets.letting; visits = all.visits; at = AtRequest asked; order = halted.order };
+      → AllVisited state names mid after old one via to → Halted state one new → Interrupted state names before after old new from
+  interrupts-front {before} {mid} {after} lets all halted = record {
+    it = record { letting = lets.letting; visits = all.visits; at = AtFront };
     is = record {
       lets = lets.lets;
       each = append-nil (map client_of all.visits) ∙ all.each ∙ lets.leaves;
       are = all.are;
-      stops = halted.is;
+      stops = tt;
     };
     calls = logs-then before mid after (letting_calls lets.letting) (flat_map visit_calls all.visits) lets.calls all.calls;
     last = halted.last;
-    acts = attended-then state all.acts halted.acts;
+    acts = attended-still state all.acts halted.acts;
     left = halted.left;
-    tells = λ log honest. all.tells log ((halted.acts log).was_honest (left-honest state halted.left honest));
+    tells = λ log honest. all.tells log ((halted.acts log).was_honest (failed-honest state halted.left honest));
   }
 
   -- a turn
-  pub attends : {before mid after : Option (List Call)} {old one new : TurnerView Tables} {from via to : List HeldClient} {IsFront : Option Answering → Type 0}
+  pub attends : {before mid after : Option (List Call)} {old one new : TurnerView Tables} {from via to : List HeldClient} {IsFront : FrontTurn → Type 0}
       → LetsIn before mid from via → AllVisited state names mid after old one via to → RespondedBy state names one new IsFront
       → Attends state names before after old new from to IsFront
   attends {before} {mid} {after} {new = new} lets all responded = record {

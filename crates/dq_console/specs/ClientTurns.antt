@@ -15,18 +15,21 @@ use Rattle.dq_wires.specs.ConnectionActions.{Shutting}
 use Rattle.dq_wires.specs.Logs.{Logs, LogsAll}
 use Rattle.dq_wires.specs.Servings.{Act}
 use Rattle.dq_wires.specs.Turners.{TurnerView}
+use Rattle.dq_console.specs.declared.answer_error.AnswerError.{AnswerError}
+use Rattle.dq_console.specs.declared.answer_error.AnswerError.TheVariants.{NoMemory, Server}
 use Rattle.dq_console.specs.declared.asks.KeysError.{KeysError}
 use Rattle.dq_console.specs.declared.console_client.Next.{Next}
 use Rattle.dq_console.specs.declared.console_client.Next.TheVariants as next
-use Rattle.dq_console.specs.Console.{HeldClient, HasNone, HasLine, first_line, without_line, TakesMore, MayBring, with_octets, after_write, LineAnswer, IsLineAnswer, line_answer_text, answer_acts, is_unread, client_with_answer, ClientTurn, IsClientTurn, client_turn_calls, client_turn_acts, after_client_turn, Letting, IsLetting, letting_calls, with_let_in, Visit, client_of, clients_kept, visit_calls, visit_acts, IsShut, AreVisits, IsUnanswered, IsLineUnanswered, order_acts, Answering, IsAnswer, TellsOf, asked_acts, IsAnsweringIf, AskedTells, AttendingTells, Attending, IsAttending, attending_calls, attending_acts, after_attending, Interruption, IsInterruption, interruption_calls, interruption_acts, rows_after, TellsRows, ClientTurnTells, VisitsTell}
+use Rattle.dq_console.specs.Console.{HeldClient, HasNone, HasLine, first_line, without_line, TakesMore, MayBring, with_octets, after_write, LineAnswer, IsLineAnswer, line_answer_text, answer_acts, is_unread, client_with_answer, ClientTurn, IsClientTurn, client_turn_calls, client_turn_acts, after_client_turn, Letting, IsLetting, letting_calls, with_let_in, Visit, client_of, clients_kept, visit_calls, visit_acts, IsShut, AreVisits, IsUnanswered, IsLineUnanswered, order_acts, FrontTurn, IsFrontTurn, IsAnswer, TellsOf, asked_acts, AskedTells, AttendingTells, Attending, IsAttending, attending_calls, attending_acts, after_attending, Interruption, IsInterruption, interruption_calls, interruption_acts, rows_after, TellsRows, ClientTurnTells, VisitsTell}
 use Rattle.dq_request.specs.declared.request.Request.{Request}
 use Rattle.dq_request.specs.declared.response.Response.{Response}
 use Rattle.dq_core.specs.ServerView.{ServerView}
 use Rattle.dq_console.specs.declared.console_line.ConsoleLine.{ConsoleLine}
 use Rattle.dq_console.specs.declared.console_line.ConsoleLine.TheVariants as line
 use Rattle.dq_console.specs.Console.LineAnswer.{Reread}
+use Rattle.dq_console.specs.Console.FrontTurn.{Unasked, Responded, LetGo}
 use Rattle.dq_console.specs.ConsoleLines.{response_text, keys_text, misspelled_text, bad_line}
-use Rattle.dq_console.specs.Requests.{IsLeft, Answered, Unanswered}
+use Rattle.dq_console.specs.Requests.{HasFailed, Answered, Unanswered}
 use Rattle.dq_console.specs.ServiceProgress.{Attended, Holds}
 
 -- what is taken of a client
@@ -68,31 +71,29 @@ ComesNext before after old new (next.Line line) = TakesMore old × HasLine old.c
     × (line.items ≡ first_line old.came) × (new ≡ without_line old) × (after ≡ before)
 
 module _ {Tables : Type 0} (state : Tables → State) where
-  -- A fault came at a line, and there is no answer to it.
-  pub record Halted (old new : TurnerView Tables) (line : List ℕ) : Type 0 where
-    pub order : Option (Event × Reply)
-    pub is : IsLineUnanswered line order
+  -- The server failed after looks.
+  pub record Halted (old new : TurnerView Tables) : Type 0 where
     pub last : TurnerView Tables
-    pub acts : Attended state old last (order_acts order)
-    pub left : IsLeft state last.server new.server
+    pub acts : Attended state old last []
+    pub left : HasFailed state last.server new.server
 
   -- in the turn of a client, whose line was taken
   abbrev pub HaltedAt : Option (List Call) → Option (List Call) → TurnerView Tables → TurnerView Tables
       → HeldClient → Type 0
   HaltedAt before after old new client = TakesMore client × HasLine client.came
-      × (after ≡ before) × Halted old new (first_line client.came)
+      × (after ≡ before) × Halted old new
 
-  -- A fault came at a request of the web front, and there is no answer to it.
-  pub record HaltedBy (old new : TurnerView Tables) (asked : Request) : Type 0 where
-    pub order : Option (Event × Reply)
-    pub is : IsUnanswered asked order
-    pub last : TurnerView Tables
-    pub acts : Attended state old last (order_acts order)
-    pub left : IsLeft state last.server new.server
+  -- There is no answer to a line: for want of memory, when its order may have been stepped, or because the server failed.
+  abbrev pub IsNotObeyed : TurnerView Tables → TurnerView Tables → List ℕ → AnswerError → Type 0
+  IsNotObeyed old new line NoMemory = (order : Option (Event × Reply)) × IsLineUnanswered line order
+      × Attended state old new (order_acts order)
+  IsNotObeyed old new line (Server why) = Halted old new
 
-  -- at some request of it
-  abbrev pub HaltedAtFront : TurnerView Tables → TurnerView Tables → Type 0
-  HaltedAtFront old new = (asked : Request) × HaltedBy old new asked
+  -- nor to a request of the web front
+  abbrev pub IsNotAnswered : TurnerView Tables → TurnerView Tables → Request → AnswerError → Type 0
+  IsNotAnswered old new asked NoMemory = (order : Option (Event × Reply)) × IsUnanswered asked order
+      × Attended state old new (order_acts order)
+  IsNotAnswered old new asked (Server why) = Halted old new
 
 -- ---- the web front's keys
 
@@ -111,7 +112,7 @@ module _ {Front : Type 0} (rereads : Front → Front → Result (Unit {0}) KeysE
   abbrev pub IsReread : Front → Front → Type 0
   IsReread old new = (outcomes : List (Result (Unit {0}) KeysError)) × AreReread outcomes old new
 
--- what is answered to a line, and what a fault leaves
+-- what is answered to a line, and what is left if nothing is
 module _ {Tables : Type 0} (state : Tables → State) (copied : List Row → Type 0)
     (names : List (List ℕ)) (rereads : Result (Unit {0}) KeysError → Type 0) where
   abbrev pub LineAnswered : ServerView Tables → ServerView Tables → ConsoleLine → List ℕ → Type 0
@@ -124,9 +125,10 @@ module _ {Tables : Type 0} (state : Tables → State) (copied : List Row → Typ
   LineAnswered old new line.Bad text = (new ≡ old) × (text ≡ bad_line)
 
 module _ {Tables : Type 0} (state : Tables → State) where
-  abbrev pub LineUnanswered : ServerView Tables → ServerView Tables → ConsoleLine → Type 0
-  LineUnanswered old new (line.Asked asked) = Unanswered state old new asked
-  LineUnanswered old new other = new ≡ old
+  abbrev pub LineUnanswered : ServerView Tables → ServerView Tables → ConsoleLine → AnswerError → Type 0
+  LineUnanswered old new (line.Asked asked) error = Unanswered state old new asked error
+  LineUnanswered old new other NoMemory = new ≡ old
+  LineUnanswered old new other (Server why) = ⊥
 
 -- over the names of the institutions
 module _ {Tables : Type 0} (state : Tables → State) (names : List (List ℕ)) where
@@ -140,12 +142,6 @@ module _ {Tables : Type 0} (state : Tables → State) (names : List (List ℕ)) 
     pub tells : Holds state old new.server (λ institutions rows done.
         TellsRows institutions names (rows_after institutions rows done) answer)
     pub reread : IsRereadFor rereads answer
-
-  -- the same; or there was no memory for the line, and nothing was done
-  abbrev pub DoesIf : TurnerView Tables → TurnerView Tables → List ℕ → HeldClient → HeldClient
-      → (Result (Unit {0}) KeysError → Type 0) → Bool → Type 0
-  DoesIf old new line client next rereads true = Does old new line client next rereads
-  DoesIf old new line client next rereads false = new ≡ old
 
   -- the turn of a client was made, but for its shut if it is gone
   pub record ClientTurnMade (before after : Option (List Call)) (old new : TurnerView Tables)
@@ -195,11 +191,9 @@ module _ {Tables : Type 0} (state : Tables → State) (names : List (List ℕ)) 
     pub calls : LogsAll before after (flat_map visit_calls visits)
     pub listening : TakesMore client
     pub has : HasLine client.came
-    pub order : Option (Event × Reply)
-    pub is : IsLineUnanswered (first_line client.came) order
     pub last : TurnerView Tables
-    pub acts : Attended state old last (flat_map visit_acts visits ++ order_acts order)
-    pub left : IsLeft state last.server new.server
+    pub acts : Attended state old last (flat_map visit_acts visits)
+    pub left : HasFailed state last.server new.server
     pub tells : Holds state old new.server (λ institutions rows done.
         VisitsTell institutions names rows done visits)
 
@@ -211,10 +205,10 @@ module _ {Tables : Type 0} (state : Tables → State) (names : List (List ℕ)) 
     pub tells : Holds state old new.server (λ institutions rows done.
         TellsOf institutions names (rows_after institutions rows done) asked answer)
 
-  -- what the web front asked was answered, or nothing was asked
-  pub record RespondedBy (old new : TurnerView Tables) (IsFront : Option Answering → Type 0) : Type 0 where
-    pub asked : Option Answering
-    pub are : IsAnsweringIf asked
+  -- the web front had its turn
+  pub record RespondedBy (old new : TurnerView Tables) (IsFront : FrontTurn → Type 0) : Type 0 where
+    pub asked : FrontTurn
+    pub are : IsFrontTurn asked
     pub acts : Attended state old new (asked_acts asked)
     pub tells : Holds state old new.server (λ institutions rows done.
         AskedTells institutions names rows done asked)
@@ -222,7 +216,7 @@ module _ {Tables : Type 0} (state : Tables → State) (names : List (List ℕ)) 
 
   -- a turn was made: `IsFront` tells what the web front asked and was answered
   pub record Attends (before after : Option (List Call)) (old new : TurnerView Tables)
-      (clients left : List HeldClient) (IsFront : Option Answering → Type 0) : Type 0 where
+      (clients left : List HeldClient) (IsFront : FrontTurn → Type 0) : Type 0 where
     pub attending : Attending
     pub is : IsAttending clients attending
     pub calls : LogsAll before after (attending_calls attending)
@@ -240,21 +234,23 @@ module _ {Tables : Type 0} (state : Tables → State) (names : List (List ℕ)) 
     pub calls : LogsAll before after (interruption_calls it)
     pub last : TurnerView Tables
     pub acts : Attended state old last (interruption_acts it)
-    pub left : IsLeft state last.server new.server
+    pub left : HasFailed state last.server new.server
     pub tells : Holds state old new.server (λ institutions rows done.
         VisitsTell institutions names rows done it.visits)
 
--- The request that waited is answered, and its answer is given to the web front; or none waited, and it is as it was.
-abbrev pub IsFrontServed : {Front : Type 0} → (Front → Option Request) → (Front → Front → Response → Type 0)
-    → Front → Front → Option Answering → Type 0
-IsFrontServed waiting answers old new None = (waiting old ≡ None) × (new ≡ old)
-IsFrontServed waiting answers old new (Some it) = (waiting old ≡ Some it.asked) × answers old new it.answer
+-- The request that waited is answered, and its answer is given to the web front, or who asked it is let go; or none
+-- waited, and the front is as it was.
+module _ {Front : Type 0} (waiting : Front → Option Request) (answers : Front → Front → Response → Type 0)
+    (lets_go : Front → Front → Type 0) where
+  abbrev pub IsFrontServed : Front → Front → FrontTurn → Type 0
+  IsFrontServed old new Unasked = (waiting old ≡ None) × (new ≡ old)
+  IsFrontServed old new (Responded it) = (waiting old ≡ Some it.asked) × answers old new it.answer
+  IsFrontServed old new (LetGo asked order) = (waiting old ≡ Some asked) × lets_go old new
 
--- The same, after its keys may have been read anew.
-abbrev pub HasFrontTurn : {Front : Type 0} → (Front → Option Request) → (Front → Front → Response → Type 0)
-    → (Front → Front → Result (Unit {0}) KeysError → Type 0) → Front → Front → Option Answering → Type 0
-HasFrontTurn {Front} waiting answers rereads old new asked =
-    (mid : Front) × IsReread rereads old mid × IsFrontServed waiting answers mid new asked
+  -- The same, after its keys may have been read anew.
+  abbrev pub HasFrontTurn : (Front → Front → Result (Unit {0}) KeysError → Type 0) → Front → Front → FrontTurn → Type 0
+  HasFrontTurn rereads old new asked =
+      (mid : Front) × IsReread rereads old mid × IsFrontServed mid new asked
 
 -- a turn began
 pub record LetsIn (before after : Option (List Call)) (from to : List HeldClient) : Type 0 where

@@ -98,6 +98,23 @@ IsAnswer other answer acts = acts ≡ []
 abbrev pub IsAnswering : Answering → Type 0
 IsAnswering it = IsAnswer it.asked it.answer it.acts
 
+-- ---- orders without an answer
+
+-- The order of a request for whose answer there is no memory, if it was stepped, with its reply.
+abbrev pub IsUnanswered : Request → Option (Event × Reply) → Type 0
+IsUnanswered asked None = Unit {0}
+IsUnanswered asked (Some order) = order_in asked ≡ Some order.0
+
+-- that of a line
+abbrev pub IsLineUnanswered : List ℕ → Option (Event × Reply) → Type 0
+IsLineUnanswered text None = Unit {0}
+IsLineUnanswered text (Some order) =
+    (asked : Request) × SpellsRequest text asked × (order_in asked ≡ Some order.0)
+
+abbrev pub order_acts : Option (Event × Reply) → List Act
+order_acts None = []
+order_acts (Some order) = Ordered order.0 order.1 ∷ []
+
 -- An answer tells of the rows that are there: a search tells what the institution that it names is shown of them, and
 -- counts are of them.
 abbrev pub TellsOf : List Institution → List (List ℕ) → List Row → Request → Response → Type 0
@@ -164,8 +181,8 @@ pub data ClientTurn : Type 0 where
   Received : ℕ → ReadOutcome → ClientTurn
   -- from it was read; it sends no more, or there is no memory for what came
   Dropped : ℕ → ReadOutcome → ClientTurn
-  -- there is no memory for its next line
-  Forgotten : ClientTurn
+  -- there is no memory for its next line, or for the answer to it: its order may have been stepped, with this reply
+  Forgotten : Option (Event × Reply) → ClientTurn
   -- its next line was taken, and this answer offered
   Took : LineAnswer → Result ℕ WireFault → ClientTurn
 
@@ -187,7 +204,9 @@ IsClientTurn client Closed = (client.unsent ≡ []) × (client.is_over ≡ true)
 IsClientTurn client (Received room came) = TakesMore client × HasNone client.came × MayBring came
 IsClientTurn client (Dropped room came) =
     TakesMore client × HasNone client.came × (came ≢ what.Nothing)
-IsClientTurn client Forgotten = TakesMore client
+IsClientTurn client (Forgotten None) = TakesMore client
+IsClientTurn client (Forgotten (Some order)) = TakesMore client × HasLine client.came
+    × IsLineUnanswered (first_line client.came) (Some order)
 IsClientTurn client (Took answer taken) = TakesMore client × HasLine client.came
     × IsLineAnswer (first_line client.came) answer
 
@@ -196,7 +215,7 @@ client_turn_calls client (Offered taken) = Write client.place client.unsent take
 client_turn_calls client Closed = []
 client_turn_calls client (Received room came) = Read client.place room came ∷ []
 client_turn_calls client (Dropped room came) = Read client.place room came ∷ []
-client_turn_calls client Forgotten = []
+client_turn_calls client (Forgotten order) = []
 client_turn_calls client (Took answer taken) = Write client.place (line_answer_text answer) taken ∷ []
 
 abbrev pub client_turn_acts : ClientTurn → List Act
@@ -204,7 +223,7 @@ client_turn_acts (Offered taken) = []
 client_turn_acts Closed = []
 client_turn_acts (Received room came) = []
 client_turn_acts (Dropped room came) = []
-client_turn_acts Forgotten = []
+client_turn_acts (Forgotten order) = order_acts order
 client_turn_acts (Took answer taken) = answer_acts answer
 
 abbrev pub without_line : HeldClient → HeldClient
@@ -231,7 +250,7 @@ after_client_turn client (Offered taken) = after_write client taken
 after_client_turn client Closed = []
 after_client_turn client (Received room came) = with_octets client came ∷ []
 after_client_turn client (Dropped room came) = []
-after_client_turn client Forgotten = []
+after_client_turn client (Forgotten order) = []
 after_client_turn client (Took answer taken) =
     after_write (client_with_answer (without_line client) (line_answer_text answer) (is_unread answer)) taken
 
@@ -280,7 +299,7 @@ ClientTurnTells institutions names rows done client (Offered taken) = Unit {0}
 ClientTurnTells institutions names rows done client Closed = Unit {0}
 ClientTurnTells institutions names rows done client (Received room came) = Unit {0}
 ClientTurnTells institutions names rows done client (Dropped room came) = Unit {0}
-ClientTurnTells institutions names rows done client Forgotten = Unit {0}
+ClientTurnTells institutions names rows done client (Forgotten order) = Unit {0}
 ClientTurnTells institutions names rows done client (Took answer taken) =
     TellsRows institutions names (rows_after institutions rows done) answer
 
@@ -335,30 +354,41 @@ with_let_in clients (TurnedAway place answer) = clients
 
 -- ---- a turn of the console and of the web front
 
--- Clients have their visits, and then one request of the web front is answered, if one waits.
+-- The turn of the web front.
+pub data FrontTurn : Type 0 where
+  -- no request waits
+  Unasked : FrontTurn
+  -- the request that waits is answered
+  Responded : Answering → FrontTurn
+  -- There is no memory for the answer to it, and who asks it is let go. Its order may have been stepped, with this reply.
+  LetGo : Request → Option (Event × Reply) → FrontTurn
+
+abbrev pub IsFrontTurn : FrontTurn → Type 0
+IsFrontTurn Unasked = Unit {0}
+IsFrontTurn (Responded it) = IsAnswering it
+IsFrontTurn (LetGo asked order) = IsUnanswered asked order
+
+-- Clients have their visits, and then the web front has its turn.
 pub record Attending : Type 0 where
   pub letting : Letting
   pub visits : List Visit
-  pub asked : Option Answering
-
-abbrev pub IsAnsweringIf : Option Answering → Type 0
-IsAnsweringIf None = Unit {0}
-IsAnsweringIf (Some it) = IsAnswering it
+  pub asked : FrontTurn
 
 -- Each client has one visit, the new one too, in order.
 pub record IsAttending (clients : List HeldClient) (a : Attending) : Type 0 where
   pub lets : IsLetting clients a.letting
   pub each : map client_of a.visits ≡ with_let_in clients a.letting
   pub are : AreVisits a.visits
-  pub answers : IsAnsweringIf a.asked
+  pub answers : IsFrontTurn a.asked
 
 -- the calls of the console's wires
 abbrev pub attending_calls : Attending → List Call
 attending_calls a = letting_calls a.letting ++ flat_map visit_calls a.visits
 
-abbrev pub asked_acts : Option Answering → List Act
-asked_acts None = []
-asked_acts (Some it) = it.acts
+abbrev pub asked_acts : FrontTurn → List Act
+asked_acts Unasked = []
+asked_acts (Responded it) = it.acts
+asked_acts (LetGo asked order) = order_acts order
 
 -- the orders that were stepped, with their replies
 abbrev pub attending_acts : Attending → List Act
@@ -368,10 +398,11 @@ abbrev pub after_attending : Attending → List HeldClient
 after_attending a = flat_map clients_kept a.visits
 
 -- Clients, and then the web front, are told of the rows as they are when each is answered.
-abbrev pub AskedTells : List Institution → List (List ℕ) → List Row → List Act → Option Answering → Type 0
-AskedTells institutions names rows done None = Unit {0}
-AskedTells institutions names rows done (Some it) =
+abbrev pub AskedTells : List Institution → List (List ℕ) → List Row → List Act → FrontTurn → Type 0
+AskedTells institutions names rows done Unasked = Unit {0}
+AskedTells institutions names rows done (Responded it) =
     TellsOf institutions names (rows_after institutions rows done) it.asked it.answer
+AskedTells institutions names rows done (LetGo asked order) = Unit {0}
 
 abbrev pub AttendingTells : List Institution → List (List ℕ) → List Row → List Act → Attending → Type 0
 AttendingTells institutions names rows done a =
@@ -383,50 +414,32 @@ AttendingTells institutions names rows done a =
 -- At what: at a line of a client, whom others follow, or at the request of the web front.
 pub data Stopping : Type 0 where
   AtLine : HeldClient → List HeldClient → Stopping
-  AtRequest : Request → Stopping
+  AtFront : Stopping
 
--- After the turns of some clients a turn ended there, and there is no answer. An order that was asked for may have
--- been stepped, with this reply.
+-- After the turns of some clients a turn ended there: the server failed, and there is no answer.
 pub record Interruption : Type 0 where
   pub letting : Letting
   pub visits : List Visit
   pub at : Stopping
-  pub order : Option (Event × Reply)
 
 -- the clients that have had no turn
 abbrev pub clients_at : Stopping → List HeldClient
 clients_at (AtLine client others) = client ∷ others
-clients_at (AtRequest asked) = []
+clients_at AtFront = []
 
--- which request the order is of
-abbrev pub IsUnanswered : Request → Option (Event × Reply) → Type 0
-IsUnanswered asked None = Unit {0}
-IsUnanswered asked (Some order) = order_in asked ≡ Some order.0
-
--- which line
-abbrev pub IsLineUnanswered : List ℕ → Option (Event × Reply) → Type 0
-IsLineUnanswered text None = Unit {0}
-IsLineUnanswered text (Some order) =
-    (asked : Request) × SpellsRequest text asked × (order_in asked ≡ Some order.0)
-
-abbrev pub IsStopping : Stopping → Option (Event × Reply) → Type 0
-IsStopping (AtLine client others) order = TakesMore client × HasLine client.came
-    × IsLineUnanswered (first_line client.came) order
-IsStopping (AtRequest asked) order = IsUnanswered asked order
-
-abbrev pub order_acts : Option (Event × Reply) → List Act
-order_acts None = []
-order_acts (Some order) = Ordered order.0 order.1 ∷ []
+abbrev pub IsStopping : Stopping → Type 0
+IsStopping (AtLine client others) = TakesMore client × HasLine client.came
+IsStopping AtFront = Unit {0}
 
 -- The turn was one up to there.
 pub record IsInterruption (clients : List HeldClient) (it : Interruption) : Type 0 where
   pub lets : IsLetting clients it.letting
   pub each : map client_of it.visits ++ clients_at it.at ≡ with_let_in clients it.letting
   pub are : AreVisits it.visits
-  pub stops : IsStopping it.at it.order
+  pub stops : IsStopping it.at
 
 abbrev pub interruption_calls : Interruption → List Call
 interruption_calls it = letting_calls it.letting ++ flat_map visit_calls it.visits
 
 abbrev pub interruption_acts : Interruption → List Act
-interruption_acts it = flat_map visit_acts it.visits ++ order_acts it.order
+interruption_acts it = flat_map visit_acts it.visits

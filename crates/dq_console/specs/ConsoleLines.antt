@@ -21,7 +21,7 @@ use Rattle.dq_request.specs.declared.response.Response.{Response}
 use Rattle.dq_request.specs.declared.response.Response.TheVariants as response
 use Rattle.dq_request.specs.declared.search.Search.{Search}
 use Rattle.dq_request.specs.declared.search.Subject.{Subject}
-use Rattle.dq_request.specs.declared.search.Subject.TheVariants.{Studies, Series, Images, Worklist, Steps}
+use Rattle.dq_request.specs.declared.search.Subject.TheVariants.{Studies, Series, Images, StudyImages, Worklist, Steps}
 use Rattle.dq_request.specs.Responses.{cause_text}
 use Rattle.dq_request.specs.Searches.{TakesWords, StopsAt}
 use Rattle.dq_console.specs.declared.asks.KeysError.{KeysError}
@@ -36,6 +36,7 @@ abbrev pub subject_word : Subject → List ℕ
 subject_word Studies = codes "studies "
 subject_word Series = codes "series "
 subject_word Images = codes "images "
+subject_word StudyImages = codes "study-images "
 subject_word Worklist = codes "worklist "
 subject_word Steps = codes "steps "
 

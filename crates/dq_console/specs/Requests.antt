@@ -1,13 +1,17 @@
 -- The answer to a request, over the rows that are there.
 use Rattle.std.specs.Prelude.{◌≡◌, ◌⊎◌, ◌==◌, ℕ, Bool, true, false, if◌then◌else◌, List, [], ◌∷◌, length, map, Option, Some, None, Result, Ok, Err, OnOk}
+use Rattle.std.specs.Allocator.{alloc_error}
 use Rattle.std.specs.List.{list_any}
 use Rattle.std.specs.Str.{bytes_eq}
+use Rattle.std.specs.declared.alloc.AllocError.{AllocError}
 use Rattle.dq_config.specs.declared.config.Institution.{Institution}
 use Rattle.dq_dataset.specs.Tree.{ElementList}
 use Rattle.dq_dimse.specs.Statuses.{success}
 use Rattle.dq_match.specs.declared.responses.Found.{Found}
 use Rattle.dq_tables.specs.declared.row.Kind.TheVariants as kind
 use Rattle.dq_tables.specs.declared.row.Row.{Row}
+use Rattle.dq_tables.specs.declared.fault.TableFault.{TableFault}
+use Rattle.dq_tables.specs.declared.fault.TableFault.TheVariants as table_fault
 use Rattle.dq_tables.specs.Lookups.{rows_of}
 use Rattle.dq_tables.specs.TableStates.{State}
 use Rattle.dq_core.specs.declared.event.Event.{Event}
@@ -15,6 +19,7 @@ use Rattle.dq_core.specs.declared.event.Event.TheVariants as event
 use Rattle.dq_core.specs.declared.event.Reply.{Reply}
 use Rattle.dq_core.specs.declared.event.Reply.TheVariants as reply
 use Rattle.dq_core.specs.declared.fault.Fault.{Fault}
+use Rattle.dq_core.specs.declared.fault.Fault.TheVariants as fault
 use Rattle.dq_core.specs.declared.showing.SearchKind.{SearchKind}
 use Rattle.dq_core.specs.declared.showing.SearchKind.TheVariants as among
 use Rattle.dq_core.specs.declared.showing.ShownPage.{ShownPage}
@@ -33,14 +38,17 @@ use Rattle.dq_request.specs.declared.response.BackupError.{BackupError}
 use Rattle.dq_request.specs.declared.search.Search.{Search}
 use Rattle.dq_request.specs.declared.search.ShownPage.{ShownPage as Page}
 use Rattle.dq_request.specs.declared.search.Subject.{Subject}
-use Rattle.dq_request.specs.declared.search.Subject.TheVariants.{Worklist, Steps}
+use Rattle.dq_request.specs.declared.search.Subject.TheVariants.{StudyImages, Worklist, Steps}
 use Rattle.dq_request.specs.Searches.{identifier_of}
+use Rattle.dq_console.specs.declared.answer_error.AnswerError.{AnswerError}
+use Rattle.dq_console.specs.declared.answer_error.AnswerError.TheVariants.{NoMemory, Server}
 
 -- ---- searches
 
 -- among what is searched
 abbrev pub kind_of : Subject → SearchKind
 kind_of Worklist = among.Worklist
+kind_of StudyImages = among.StudyImages
 kind_of subject = among.StudyRoot
 
 abbrev pub page_window : Page → ShownPage
@@ -155,25 +163,51 @@ module _ {Tables : Type 0} (state : Tables → State) (copied : List Row → Typ
       Orders state old new (event.Withdraw institution id) answer
   Answered old new (request.Backup path) answer = BacksUp state copied old new answer
 
--- The state in which a fault leaves a server: it is as it was, or it failed at an event or at a look.
+-- ---- what is left if there is no answer
+
+-- So it is unless the server failed.
+abbrev pub GoesOn : {Answer : Type 0} → Result Answer AnswerError → Type 0 → Type 0
+GoesOn (Ok answer) it = it
+GoesOn (Err error) it = error ≡ NoMemory → it
+
+abbrev pub fault_of : AnswerError → Fault
+fault_of NoMemory = fault.NoMemory
+fault_of (Server why) = why
+
+-- Want of memory is seen in place of what a look sees, and is no fault.
+abbrev pub IsIfMemory : {Seen : Type 0} → Result Seen TableFault → Result (Result Seen AllocError) TableFault → Type 0
+IsIfMemory (Ok seen) result = result ≡ Ok (Ok seen)
+IsIfMemory (Err table_fault.NoMemory) result = result ≡ Ok (Err alloc_error)
+IsIfMemory (Err table_fault.Store) result = result ≡ Err table_fault.Store
+
 module _ {Tables : Type 0} (state : Tables → State) where
-  abbrev pub IsLeft : ServerView Tables → ServerView Tables → Type 0
-  IsLeft old new = (new ≡ old) ⊎ ((event : Event) × (why : Fault) × Fails state old new event why)
+  -- A server failed, at an event or at a look.
+  abbrev pub HasFailed : ServerView Tables → ServerView Tables → Type 0
+  HasFailed old new = ((event : Event) × (why : Fault) × Fails state old new event why)
       ⊎ ((why : Fault) × FailsToLook state old new why)
 
-  -- some looks, and then a fault
-  abbrev pub LooksInPart : ServerView Tables → ServerView Tables → Type 0
-  LooksInPart old new = (last : ServerView Tables) × Looked state old last × IsLeft last new
+  -- The state in which a server is left when its service stops: it is as it was, or it failed.
+  abbrev pub IsLeft : ServerView Tables → ServerView Tables → Type 0
+  IsLeft old new = (new ≡ old) ⊎ HasFailed old new
 
-  -- an order failed, or was stepped and there is no memory for the answer
-  abbrev pub OrdersInPart : ServerView Tables → ServerView Tables → Event → Type 0
-  OrdersInPart old new event = (new ≡ old) ⊎ ((why : Fault) × Fails state old new event why)
-      ⊎ ((reply : Reply) × Stepped state old new event reply)
+  -- There is no memory for an answer, and the server is as it was; or it failed at a look.
+  abbrev pub IsLeftBy : AnswerError → ServerView Tables → ServerView Tables → Type 0
+  IsLeftBy NoMemory last new = new ≡ last
+  IsLeftBy (Server why) last new = FailsToLook state last new why
 
-  -- A request is not answered, for a fault: its order was done in part, or nothing but looks came about.
-  abbrev pub Unanswered : ServerView Tables → ServerView Tables → Request → Type 0
-  Unanswered old new (request.Schedule institution octets) =
-      OrdersInPart old new (event.Schedule institution octets)
-  Unanswered old new (request.Withdraw institution id) =
-      OrdersInPart old new (event.Withdraw institution id)
-  Unanswered old new other = LooksInPart old new
+  -- some looks, and then that
+  abbrev pub LooksInPart : ServerView Tables → ServerView Tables → AnswerError → Type 0
+  LooksInPart old new error = (last : ServerView Tables) × Looked state old last × IsLeftBy error last new
+
+  -- There is no memory for an order, and nothing came about, or for its answer once it was stepped; or it failed.
+  abbrev pub OrdersInPart : ServerView Tables → ServerView Tables → Event → AnswerError → Type 0
+  OrdersInPart old new event NoMemory = (new ≡ old) ⊎ ((reply : Reply) × Stepped state old new event reply)
+  OrdersInPart old new event (Server why) = Fails state old new event why
+
+  -- A request is not answered: its order was done in part, or nothing but looks came about.
+  abbrev pub Unanswered : ServerView Tables → ServerView Tables → Request → AnswerError → Type 0
+  Unanswered old new (request.Schedule institution octets) error =
+      OrdersInPart old new (event.Schedule institution octets) error
+  Unanswered old new (request.Withdraw institution id) error =
+      OrdersInPart old new (event.Withdraw institution id) error
+  Unanswered old new other error = LooksInPart old new error

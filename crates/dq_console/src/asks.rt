@@ -27,6 +27,9 @@ pub trait Asks {
     /// It is given this answer.
     ghost answers: { Self → Self → Response → Type 0 };
 
+    /// Who asks is let go, unanswered.
+    ghost lets_go: { Self → Self → Type 0 };
+
     /// Its keys are read anew, with this outcome.
     ghost rereads: { Self → Self → Result (Unit {0}) KeysError → Type 0 };
 
@@ -37,6 +40,10 @@ pub trait Asks {
     /// Answers it.
     fn answer(&mut self, response: &Response)
         ensures { answers self.old self.new response.now };
+
+    /// Lets go who asks the request that waits, unanswered.
+    fn let_go(&mut self)
+        ensures { lets_go self.old self.new };
 
     /// Reads its keys anew. The request that waits goes on to wait.
     fn read_keys(&mut self) -> Result<(), KeysError>

@@ -1,10 +1,12 @@
 //! The console: orders of the worklist, reports, copies of the store and searches, that are asked for
 //! by lines over wires of their own; and the requests of a web front.
-ghost use Rattle.std.specs.Prelude.{◌≡◌, [], option_map, string_bytes, IfOk, OnOk, OnErr};
+ghost use Rattle.std.specs.Prelude.{◌≡◌, [], option_map, string_bytes, IfOk, IfErr, OnOk, OnErr};
 ghost use Rattle.dq_request.specs.declared.request.Request.{Request};
+ghost use Rattle.dq_console.specs.Requests.{GoesOn};
 ghost use Rattle.dq_console.specs.RequestNotes.{is_bad, IsNameNoted, NotesRequest, NotesLine};
-ghost use Rattle.dq_console.specs.ClientTurns.{DoesIf, Halted, HaltedAt, HaltedBy, ClientTurnMade, Visited, AllVisited, SomeVisited, LineAnswered, LineUnanswered, Responds, RespondedBy, HaltedAtFront, Attends, Interrupted, LetsIn, IsReread, IsFrontServed, HasFrontTurn};
+ghost use Rattle.dq_console.specs.ClientTurns.{Does, Halted, HaltedAt, IsNotObeyed, IsNotAnswered, ClientTurnMade, Visited, AllVisited, SomeVisited, LineAnswered, LineUnanswered, Responds, RespondedBy, Attends, Interrupted, LetsIn, IsReread, IsFrontServed, HasFrontTurn};
 
+use crate::answer_error::AnswerError;
 use crate::asks::Asks;
 use crate::backup::Backups;
 use crate::console_client::{ConsoleClient, Next};
@@ -100,14 +102,14 @@ impl<W: Wires + Drop> ConsoleHandler<W> {
         backups: &B,
         front: &mut F,
         line: &ConsoleLine,
-    ) -> Result<Vec<u8>, Fault>
+    ) -> Result<Vec<u8>, AnswerError>
         ensures answered { IfOk result (λ text. LineAnswered T.state (B.copied backups.now)
             self.now.names.items (F.rereads front.old front.new) turner.old.server turner.new.server
             line.now text.items) }
         ensures hold { turner.new.hold ≡ turner.old.hold }
-        ensures fault { OnOk result (turner.new.fault ≡ turner.old.fault) }
+        ensures fault { GoesOn result (turner.new.fault ≡ turner.old.fault) }
         ensures front { IsReread F.rereads front.old front.new }
-        ensures cut { OnErr result
+        ensures cut { IfErr result
             (LineUnanswered T.state turner.old.server turner.new.server line.now) }
     {
         match line {
@@ -123,8 +125,7 @@ impl<W: Wires + Drop> ConsoleHandler<W> {
     }
 
     // Does what a line tells, and gives the client its answer. The first bad line is the last that
-    // is taken of a client. Where there is no memory for the line, nothing is done: the answer is
-    // whether there was.
+    // is taken of a client.
     #[tactic(auto, using(crate::proofs::Rereading::reread_none))]
     fn obey<T: Tables, B: Backups<T>, F: Asks>(
         &mut self,
@@ -133,28 +134,24 @@ impl<W: Wires + Drop> ConsoleHandler<W> {
         turner: &mut Turner<T>,
         backups: &B,
         front: &mut F,
-    ) -> Result<bool, Fault>
-        ensures does { IfOk result (DoesIf T.state self.old.names.items turner.old turner.new
+    ) -> Result<(), AnswerError>
+        ensures does { OnOk result (Does T.state self.old.names.items turner.old turner.new
             octets.now client.old client.new (F.rereads front.old front.new)) }
         ensures front { IsReread F.rereads front.old front.new }
         ensures wires { self.new.wires ≡ self.old.wires }
         ensures names { self.new.names.items ≡ self.old.names.items }
-        ensures cut { OnErr result (Halted T.state turner.old turner.new octets.now) }
+        ensures cut { IfErr result (IsNotObeyed T.state turner.old turner.new octets.now) }
     {
         calls_are_a_serving::<T>();
         steps_are_a_history::<T>();
         servings_are_answered::<T>();
-        let Ok(line) = line_in(self.alloc, octets) else {
-            return Ok(false);
-        };
-        let Ok(note) = line_note(self.alloc, &line) else {
-            return Ok(false);
-        };
+        let line = line_in(self.alloc, octets)?;
+        let note = line_note(self.alloc, &line)?;
         let is_last = is_bad(&line);
         let answer = self.answer_to(turner, backups, front, &line)?;
         let _ = keep_note(&mut self.notes, note, answer.as_slice());
         client.put(answer, is_last);
-        Ok(true)
+        Ok(())
     }
 
     // Answers a request.
@@ -163,12 +160,12 @@ impl<W: Wires + Drop> ConsoleHandler<W> {
         request: &Request,
         turner: &mut Turner<T>,
         backups: &B,
-    ) -> Result<Response, Fault>
+    ) -> Result<Response, AnswerError>
         ensures answers { IfOk result (Responds T.state self.old.names.items turner.old turner.new
             request.now) }
         ensures wires { self.new.wires ≡ self.old.wires }
         ensures names { self.new.names.items ≡ self.old.names.items }
-        ensures cut { OnErr result (HaltedBy T.state turner.old turner.new request.now) }
+        ensures cut { IfErr result (IsNotAnswered T.state turner.old turner.new request.now) }
     {
         calls_are_a_serving::<T>();
         steps_are_a_history::<T>();
@@ -182,7 +179,8 @@ impl<W: Wires + Drop> ConsoleHandler<W> {
         Ok(response)
     }
 
-    // The turn of a client, but for its shut. The answer is whether it is still there.
+    // The turn of a client, but for its shut. The answer is whether it is still there: one for whose
+    // line or answer there is no memory is not.
     #[tactic(auto, using(crate::proofs::Rereading::reread_none))]
     fn client_turn<T: Tables, B: Backups<T>, F: Asks>(
         &mut self,
@@ -202,10 +200,11 @@ impl<W: Wires + Drop> ConsoleHandler<W> {
             Next::Held => Ok(true),
             Next::Left => Ok(false),
             Next::Line(octets) => {
-                if !self.obey(client, octets.as_slice(), turner, backups, front)? {
-                    return Ok(false);
+                match self.obey(client, octets.as_slice(), turner, backups, front) {
+                    Ok(()) => Ok(client.send(&mut self.wires)),
+                    Err(AnswerError::NoMemory) => Ok(false),
+                    Err(AnswerError::Server(fault)) => Err(fault),
                 }
-                Ok(client.send(&mut self.wires))
             }
         }
     }
@@ -332,34 +331,38 @@ impl<W: Wires + Drop, F: Asks + Drop> Console<W, F> {
         Ok(())
     }
 
-    // Answers the request of the web front that waits, if one does.
+    // Answers the request of the web front that waits, if one does. If there is no memory for the
+    // answer, who asks it is let go.
     fn respond<T: Tables, B: Backups<T>>(
         &mut self,
         turner: &mut Turner<T>,
         backups: &B,
     ) -> Result<(), Fault>
         ensures went { OnOk result (RespondedBy T.state self.old.handler.names.items turner.old turner.new
-            (IsFrontServed F.waiting F.answers self.old.front self.new.front)) }
+            (IsFrontServed F.waiting F.answers F.lets_go self.old.front self.new.front)) }
         ensures wires { OnOk result (self.new.handler.wires ≡ self.old.handler.wires) }
         ensures names { OnOk result (self.new.handler.names.items ≡ self.old.handler.names.items) }
         ensures clients { OnOk result (self.new.clients.items ≡ self.old.clients.items) }
-        ensures cut { OnErr result (HaltedAtFront T.state turner.old turner.new) }
+        ensures cut { OnErr result (Halted T.state turner.old turner.new) }
         ensures untouched { OnErr result (self.new.handler.wires ≡ self.old.handler.wires) }
     {
         let Some(request) = self.front.next() else {
             return Ok(());
         };
-        let response = self.handler.respond(request, turner, backups)?;
-        self.front.answer(&response);
+        match self.handler.respond(request, turner, backups) {
+            Ok(response) => self.front.answer(&response),
+            Err(AnswerError::NoMemory) => self.front.let_go(),
+            Err(AnswerError::Server(fault)) => return Err(fault),
+        }
         Ok(())
     }
 
     /// Makes one turn. A client is let in where there is room. Then each that is there has its
     /// turn: what is not written of its answer is offered, or else a line is taken and answered,
     /// if one has come whole, or else is read. Then the request of the web front that waits is answered. Nothing is
-    /// asked of other connections. What fails of
-    /// a client, or of the wires, ends that client alone: only a fault of the server, or want of
-    /// memory for an answer, ends more. Where a line asks so, the web front's keys are read anew. A search is answered by what the institution that it
+    /// asked of other connections. What fails of a client, or of the wires, ends only that client, and
+    /// so does want of memory for its line or its answer: a visitor of the web front is let go then, too. Only
+    /// a fault of the server ends more. Where a line asks so, the web front's keys are read anew. A search is answered by what the institution that it
     /// names is shown of the rows as they are then, and counts are of these.
     pub fn turn<T: Tables, B: Backups<T>>(
         &mut self,
@@ -369,7 +372,7 @@ impl<W: Wires + Drop, F: Asks + Drop> Console<W, F> {
         ensures went { OnOk result (Attends T.state self.old.handler.names.items
             (W.log self.old.handler.wires) (W.log self.new.handler.wires) turner.old turner.new
             self.old.clients.items self.new.clients.items
-            (HasFrontTurn F.waiting F.answers F.rereads self.old.front self.new.front)) }
+            (HasFrontTurn F.waiting F.answers F.lets_go F.rereads self.old.front self.new.front)) }
         ensures names { OnOk result (self.new.handler.names.items ≡ self.old.handler.names.items) }
         ensures cut { OnErr result (Interrupted T.state self.old.handler.names.items
             (W.log self.old.handler.wires) (W.log self.new.handler.wires) turner.old turner.new

@@ -42,6 +42,7 @@ fn subject_word(subject: Subject) -> &'static str
         Subject::Studies => "studies ",
         Subject::Series => "series ",
         Subject::Images => "images ",
+        Subject::StudyImages => "study-images ",
         Subject::Worklist => "worklist ",
         Subject::Steps => "steps ",
     }
@@ -70,11 +71,16 @@ fn subject_in(line: &str) -> Option<(Subject, &str)>
     if let Some(rest) = behind(Subject::Images, line) {
         return Some((Subject::Images, rest));
     }
+    if let Some(rest) = behind(Subject::StudyImages, line) {
+        return Some((Subject::StudyImages, rest));
+    }
     if let Some(rest) = behind(Subject::Worklist, line) {
         return Some((Subject::Worklist, rest));
     }
-    let rest = behind(Subject::Steps, line)?;
-    Some((Subject::Steps, rest))
+    if let Some(rest) = behind(Subject::Steps, line) {
+        return Some((Subject::Steps, rest));
+    }
+    None
 }
 
 /// The name of an institution, before the first space, and what comes behind that.

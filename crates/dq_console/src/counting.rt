@@ -2,10 +2,10 @@
 ghost use Rattle.std.specs.Prelude.{◌≡◌, List, length, map, IfOk, IfErr, OnOk};
 ghost use Rattle.dq_tables.specs.declared.row.Row.{Row};
 ghost use Rattle.dq_tables.specs.Lookups.{rows_of};
-ghost use Rattle.dq_core.specs.declared.fault.Fault.{Fault};
+ghost use Rattle.dq_console.specs.declared.answer_error.AnswerError.{AnswerError};
 ghost use Rattle.dq_console.specs.Requests.{counts_of, institution_counts};
 
-use dq_core::Fault;
+use crate::answer_error::AnswerError;
 use dq_list::Listed;
 use dq_request::{Counted, Counts};
 use dq_tables::Kind;
@@ -32,10 +32,10 @@ pub trait Counting {
     ghost leads: { Self → Self → Type 0 };
 
     /// Counts lead there, and end by this fault.
-    ghost fails: { Self → Self → Fault → Type 0 };
+    ghost fails: { Self → Self → AnswerError → Type 0 };
 
     /// How many rows of a kind the institution of a name has.
-    fn count_rows(&mut self, kind: Kind, name: &[u8]) -> Result<u64, Fault>
+    fn count_rows(&mut self, kind: Kind, name: &[u8]) -> Result<u64, AnswerError>
         ensures found { is_honest self.new → IfOk result (λ count.
             count ≡ length (rows_of kind name.now (rows self.old))) }
         ensures leads { OnOk result (leads self.old self.new) }
@@ -45,17 +45,17 @@ pub trait Counting {
 
     ghost leads_on: { (old mid new : Self) → leads old mid → leads mid new → leads old new };
 
-    ghost fails_later: { (old mid new : Self) (fault : Fault) → leads old mid
-        → fails mid new fault → fails old new fault };
+    ghost fails_later: { (old mid new : Self) (error : AnswerError) → leads old mid
+        → fails mid new error → fails old new error };
 
-    ghost wants_memory: { (old new : Self) → leads old new → fails old new Fault.NoMemory };
+    ghost wants_memory: { (old new : Self) → leads old new → fails old new AnswerError.NoMemory };
 
     ghost keeps_rows: { (old new : Self) → leads old new → is_honest new
         → is_honest old × (rows new ≡ rows old) };
 }
 
 /// How many rows of each kind the institution of a name has.
-pub fn counts_of<C: Counting>(rows: &mut C, name: &[u8]) -> Result<Counts, Fault>
+pub fn counts_of<C: Counting>(rows: &mut C, name: &[u8]) -> Result<Counts, AnswerError>
     ensures counts { C.is_honest rows.new → IfOk result (λ counts.
         counts ≡ counts_of (C.rows rows.old) name.now) }
     ensures leads { OnOk result (C.leads rows.old rows.new) }
@@ -76,7 +76,11 @@ pub fn counts_of<C: Counting>(rows: &mut C, name: &[u8]) -> Result<Counts, Fault
 }
 
 /// How much the institution of a name keeps.
-pub fn counted<C: Counting>(alloc: Global, rows: &mut C, name: &[u8]) -> Result<Counted, Fault>
+pub fn counted<C: Counting>(
+    alloc: Global,
+    rows: &mut C,
+    name: &[u8],
+) -> Result<Counted, AnswerError>
     ensures counted { C.is_honest rows.new → IfOk result (λ it.
         it ≡ institution_counts (C.rows rows.old) name.now) }
     ensures leads { OnOk result (C.leads rows.old rows.new) }
@@ -94,7 +98,7 @@ pub fn all_counted<C: Counting>(
     alloc: Global,
     rows: &mut C,
     names: &[Listed<u8>],
-) -> Result<Listed<Counted>, Fault>
+) -> Result<Listed<Counted>, AnswerError>
     ensures counted { C.is_honest rows.new → IfOk result (λ all.
         all ≡ map (institution_counts (C.rows rows.old)) names.now) }
     ensures leads { OnOk result (C.leads rows.old rows.new) }

@@ -1,15 +1,17 @@
 //! Execution of the requests of the console and the web front.
-ghost use Rattle.std.specs.Prelude.{◌≡◌, IfOk, IfErr, OnOk, OnErr};
+ghost use Rattle.std.specs.Prelude.{◌≡◌, IfOk, IfErr, OnOk};
 ghost use Rattle.dq_core.specs.Looking.{Looked};
 ghost use Rattle.dq_core.specs.declared.event.Event.TheVariants as event;
 ghost use Rattle.dq_wires.specs.Turners.{IsOrder};
-ghost use Rattle.dq_console.specs.Requests.{is_among, counts_response, report_response, order_response, backup_response, Orders, OrdersInPart, Shows, BacksUp, Answered, LooksInPart, Unanswered};
+ghost use Rattle.dq_console.specs.Requests.{is_among, counts_response, report_response, order_response, backup_response, Orders, OrdersInPart, Shows, BacksUp, Answered, GoesOn, LooksInPart, Unanswered};
 
+use crate::answer_error::AnswerError;
 use crate::backup::{Backups, Copying};
 use crate::counting::{Counting, all_counted, counted};
+use crate::if_memory::IfMemory;
 use crate::searching::search;
 use dq_core::laws::looks_are_one_look;
-use dq_core::{Event, Fault, Reply, RowCount};
+use dq_core::{Event, Reply, RowCount};
 use dq_list::Listed;
 use dq_request::{BackupError, Cause, Request, Response};
 use dq_tables::{Kind, Tables};
@@ -17,8 +19,9 @@ use dq_wires::Turner;
 use std::alloc::Global;
 
 impl<T: Tables> Counting for Turner<T> {
-    ghost use Rattle.std.proofs.Common.{refl, inl, ◌∙◌};
+    ghost use Rattle.std.proofs.Common.{refl, ◌∙◌};
     ghost use Rattle.dq_core.proofs.Looking.{looked-none, looked-then};
+    ghost use Rattle.dq_console.specs.declared.answer_error.AnswerError.TheVariants.{NoMemory};
 
     ghost rows = { λ turner. (T.state turner.server.tables).rows };
 
@@ -27,11 +30,11 @@ impl<T: Tables> Counting for Turner<T> {
     ghost leads = { λ old new. Looked T.state old.server new.server
         × (new.hold ≡ old.hold) × (new.fault ≡ old.fault) };
 
-    ghost fails = { λ old new _.
-        LooksInPart T.state old.server new.server × (new.hold ≡ old.hold) };
+    ghost fails = { λ old new error. LooksInPart T.state old.server new.server error
+        × (new.hold ≡ old.hold) × (error ≡ NoMemory → new.fault ≡ old.fault) };
 
-    fn count_rows(&mut self, kind: Kind, name: &[u8]) -> Result<u64, Fault> {
-        self.look(&RowCount { kind, name })
+    fn count_rows(&mut self, kind: Kind, name: &[u8]) -> Result<u64, AnswerError> {
+        Ok(self.look(&IfMemory(RowCount { kind, name }))??)
     }
 
     ghost leads_nowhere = { λ it. (looked-none it.server, refl, refl) };
@@ -39,10 +42,13 @@ impl<T: Tables> Counting for Turner<T> {
     ghost leads_on = { λ old mid new one next.
         (looked-then one.0 next.0, next.1 ∙ one.1, next.2 ∙ one.2) };
 
-    ghost fails_later = { λ old mid new fault one next.
-        ((next.0.0, looked-then one.0 next.0.1, next.0.2), next.1 ∙ one.1) };
+    ghost fails_later = { λ old mid new error one next. (
+      (next.0.0, looked-then one.0 next.0.1, next.0.2),
+      next.1 ∙ one.1,
+      λ goes_on. next.2 goes_on ∙ one.2,
+    ) };
 
-    ghost wants_memory = { λ old new one. ((new.server, one.0, inl refl), one.1) };
+    ghost wants_memory = { λ old new one. ((new.server, one.0, refl), one.1, λ goes_on. one.2) };
 
     ghost keeps_rows = { λ old new one honest.
         (one.0.goes.was_honest honest, one.0.same honest) };
@@ -70,13 +76,13 @@ fn backup_response(made: Result<(), BackupError>) -> Response
 }
 
 /// Steps an order.
-fn order<T: Tables>(turner: &mut Turner<T>, event: Event) -> Result<Response, Fault>
+fn order<T: Tables>(turner: &mut Turner<T>, event: Event) -> Result<Response, AnswerError>
     requires { IsOrder event }
     ensures answered { IfOk result
         (Orders T.state turner.old.server turner.new.server event) }
     ensures hold { turner.new.hold ≡ turner.old.hold }
-    ensures fault { OnOk result (turner.new.fault ≡ turner.old.fault) }
-    ensures cut { OnErr result
+    ensures fault { GoesOn result (turner.new.fault ≡ turner.old.fault) }
+    ensures cut { IfErr result
         (OrdersInPart T.state turner.old.server turner.new.server event) }
 {
     let reply = turner.console(event)?;
@@ -89,12 +95,12 @@ fn back_up<T: Tables, B: Backups<T>>(
     turner: &mut Turner<T>,
     backups: &B,
     path: &str,
-) -> Result<Response, Fault>
+) -> Result<Response, AnswerError>
     ensures answered { IfOk result (BacksUp T.state (B.copied backups.now)
         turner.old.server turner.new.server) }
     ensures hold { turner.new.hold ≡ turner.old.hold }
     ensures fault { turner.new.fault ≡ turner.old.fault }
-    ensures cut { OnErr result (LooksInPart T.state turner.old.server turner.new.server) }
+    ensures cut { IfErr result (LooksInPart T.state turner.old.server turner.new.server) }
 {
     looks_are_one_look::<T>();
     let copying = Copying {
@@ -119,12 +125,12 @@ fn count<T: Tables>(
     turner: &mut Turner<T>,
     names: &[Listed<u8>],
     name: &[u8],
-) -> Result<Response, Fault>
+) -> Result<Response, AnswerError>
     ensures answered { IfOk result (Shows T.state turner.old.server turner.new.server
         (λ rows. counts_response names.now rows name.now)) }
     ensures hold { turner.new.hold ≡ turner.old.hold }
-    ensures fault { OnOk result (turner.new.fault ≡ turner.old.fault) }
-    ensures cut { OnErr result (LooksInPart T.state turner.old.server turner.new.server) }
+    ensures fault { GoesOn result (turner.new.fault ≡ turner.old.fault) }
+    ensures cut { IfErr result (LooksInPart T.state turner.old.server turner.new.server) }
 {
     looks_are_one_look::<T>();
     if !is_among(names, name) {
@@ -140,12 +146,12 @@ fn report<T: Tables>(
     alloc: Global,
     turner: &mut Turner<T>,
     names: &[Listed<u8>],
-) -> Result<Response, Fault>
+) -> Result<Response, AnswerError>
     ensures answered { IfOk result (Shows T.state turner.old.server turner.new.server
         (report_response names.now)) }
     ensures hold { turner.new.hold ≡ turner.old.hold }
-    ensures fault { OnOk result (turner.new.fault ≡ turner.old.fault) }
-    ensures cut { OnErr result (LooksInPart T.state turner.old.server turner.new.server) }
+    ensures fault { GoesOn result (turner.new.fault ≡ turner.old.fault) }
+    ensures cut { IfErr result (LooksInPart T.state turner.old.server turner.new.server) }
 {
     let all = all_counted(alloc, turner, names)?;
     Ok(Response::Counted(all))
@@ -157,12 +163,12 @@ fn schedule<T: Tables>(
     turner: &mut Turner<T>,
     institution: &[u8],
     octets: &[u8],
-) -> Result<Response, Fault>
+) -> Result<Response, AnswerError>
     ensures answered { IfOk result (Orders T.state turner.old.server turner.new.server
         (event.Schedule institution.now octets.now)) }
     ensures hold { turner.new.hold ≡ turner.old.hold }
-    ensures fault { OnOk result (turner.new.fault ≡ turner.old.fault) }
-    ensures cut { OnErr result (OrdersInPart T.state turner.old.server turner.new.server
+    ensures fault { GoesOn result (turner.new.fault ≡ turner.old.fault) }
+    ensures cut { IfErr result (OrdersInPart T.state turner.old.server turner.new.server
         (event.Schedule institution.now octets.now)) }
 {
     let inst = Listed::copy_of(alloc, institution)?;
@@ -176,12 +182,12 @@ fn withdraw<T: Tables>(
     turner: &mut Turner<T>,
     institution: &[u8],
     id: &[u8],
-) -> Result<Response, Fault>
+) -> Result<Response, AnswerError>
     ensures answered { IfOk result (Orders T.state turner.old.server turner.new.server
         (event.Withdraw institution.now id.now)) }
     ensures hold { turner.new.hold ≡ turner.old.hold }
-    ensures fault { OnOk result (turner.new.fault ≡ turner.old.fault) }
-    ensures cut { OnErr result (OrdersInPart T.state turner.old.server turner.new.server
+    ensures fault { GoesOn result (turner.new.fault ≡ turner.old.fault) }
+    ensures cut { IfErr result (OrdersInPart T.state turner.old.server turner.new.server
         (event.Withdraw institution.now id.now)) }
 {
     let inst = Listed::copy_of(alloc, institution)?;
@@ -196,12 +202,12 @@ pub fn serve<T: Tables, B: Backups<T>>(
     backups: &B,
     names: &[Listed<u8>],
     request: &Request,
-) -> Result<Response, Fault>
+) -> Result<Response, AnswerError>
     ensures answered { IfOk result (Answered T.state (B.copied backups.now) names.now
         turner.old.server turner.new.server request.now) }
     ensures hold { turner.new.hold ≡ turner.old.hold }
-    ensures fault { OnOk result (turner.new.fault ≡ turner.old.fault) }
-    ensures cut { OnErr result
+    ensures fault { GoesOn result (turner.new.fault ≡ turner.old.fault) }
+    ensures cut { IfErr result
         (Unanswered T.state turner.old.server turner.new.server request.now) }
 {
     looks_are_one_look::<T>();

@@ -1,12 +1,14 @@
 //! Searches of what an institution keeps.
-ghost use Rattle.std.specs.Prelude.{◌≡◌, IfOk, OnOk, OnErr};
+ghost use Rattle.std.specs.Prelude.{◌≡◌, IfOk, IfErr, OnOk};
 ghost use Rattle.dq_core.specs.Looking.{Looked};
 ghost use Rattle.dq_core.specs.Showing.{found_for};
 ghost use Rattle.dq_request.specs.Searches.{identifier_of};
-ghost use Rattle.dq_console.specs.Requests.{kind_of, is_steps, page_window, found_response, steps_response, search_response, LooksInPart};
+ghost use Rattle.dq_console.specs.Requests.{kind_of, is_steps, page_window, found_response, steps_response, search_response, GoesOn, LooksInPart};
 
+use crate::answer_error::AnswerError;
+use crate::if_memory::IfMemory;
 use dq_core::laws::looks_are_one_look;
-use dq_core::{Fault, FoundPage, SearchKind, ShownPage, StepsPage};
+use dq_core::{FoundPage, SearchKind, ShownPage, StepsPage};
 use dq_dataset::DataSet;
 use dq_dimse::status::SUCCESS;
 use dq_list::Listed;
@@ -22,6 +24,7 @@ fn kind_of(subject: Subject) -> SearchKind
 {
     match subject {
         Subject::Worklist => SearchKind::Worklist,
+        Subject::StudyImages => SearchKind::StudyImages,
         Subject::Studies | Subject::Series | Subject::Images | Subject::Steps => {
             SearchKind::StudyRoot
         }
@@ -68,25 +71,25 @@ fn search_by_keys<T: Tables>(
     alloc: Global,
     turner: &mut Turner<T>,
     search: &Search,
-) -> Result<Response, Fault>
+) -> Result<Response, AnswerError>
     ensures told { (T.state turner.new.server.tables).honest → IfOk result (λ response. response
         ≡ found_response (found_for turner.old.server.institutions search.now.institution
         (T.state turner.old.server.tables).rows (kind_of search.now.subject)
         (identifier_of search.now.subject search.now.keys) (page_window search.now.page))) }
     ensures looked { OnOk result (Looked T.state turner.old.server turner.new.server) }
     ensures hold { turner.new.hold ≡ turner.old.hold }
-    ensures fault { OnOk result (turner.new.fault ≡ turner.old.fault) }
-    ensures cut { OnErr result (LooksInPart T.state turner.old.server turner.new.server) }
+    ensures fault { GoesOn result (turner.new.fault ≡ turner.old.fault) }
+    ensures cut { IfErr result (LooksInPart T.state turner.old.server turner.new.server) }
 {
     looks_are_one_look::<T>();
     let keys = search.identifier(alloc)?;
     let name = search.institution.as_slice();
-    let found = turner.look(&FoundPage {
+    let found = turner.look(&IfMemory(FoundPage {
         name,
         kind: kind_of(search.subject),
         keys: &keys,
         page: shown(search.page),
-    })?;
+    }))??;
     Ok(found_response(found))
 }
 
@@ -95,22 +98,22 @@ pub fn search<T: Tables>(
     alloc: Global,
     turner: &mut Turner<T>,
     search: &Search,
-) -> Result<Response, Fault>
+) -> Result<Response, AnswerError>
     ensures told { (T.state turner.new.server.tables).honest → IfOk result (λ response. response
         ≡ search_response turner.old.server.institutions (T.state turner.old.server.tables).rows
         search.now) }
     ensures looked { OnOk result (Looked T.state turner.old.server turner.new.server) }
     ensures hold { turner.new.hold ≡ turner.old.hold }
-    ensures fault { OnOk result (turner.new.fault ≡ turner.old.fault) }
-    ensures cut { OnErr result (LooksInPart T.state turner.old.server turner.new.server) }
+    ensures fault { GoesOn result (turner.new.fault ≡ turner.old.fault) }
+    ensures cut { IfErr result (LooksInPart T.state turner.old.server turner.new.server) }
 {
     looks_are_one_look::<T>();
     if !is_steps(search.subject) {
         return search_by_keys(alloc, turner, search);
     }
-    let steps = turner.look(&StepsPage {
+    let steps = turner.look(&IfMemory(StepsPage {
         name: search.institution.as_slice(),
         page: shown(search.page),
-    })?;
+    }))??;
     Ok(steps_response(steps))
 }

@@ -17,10 +17,12 @@ use Rattle.dq_config.specs.Limits.{limits_of}
 use Rattle.dq_match.specs.declared.responses.Found.{Found}
 use Rattle.dq_tables.specs.declared.row.Row.{Row}
 use Rattle.dq_tables.specs.Rows.{of, by, after, Operation, after_all}
-use Rattle.dq_core.specs.Services.{responses, message_outcome, service_of_message}
+use Rattle.dq_core.specs.Services.{responses, status_alone, message_outcome, service_of_message}
 use Rattle.dq_core.specs.Pages.{OpenQuery, answered_message_id, rest, page, cancel_reaction, reaction}
 use Rattle.dq_core.specs.Stepping.{IsPartOf}
+use Rattle.dq_core.specs.Queries.{command_octets}
 use Rattle.dq_core.specs.Effects.{AnswerApplied, AnswerPartlyApplied, served_answer}
+use Rattle.dq_core.proofs.Sending.{final-sent}
 
 -- the context that is found under an id has it
 found_id : (id : ℕ) (cs : List AcceptedContext) (c : AcceptedContext) → find (λ (x : AcceptedContext). x.id == id) cs ≡ Some c → c.id ≡ id
@@ -72,7 +74,16 @@ module _ (i : Institution) (a : Agreement) (m : Message) where
           query = left ∙ ap (λ (q : OpenQuery). (page q).query) same;
         })
 
-    -- its edits were made, and not all of the page could be sent
+    -- a message was served, and a status without answers was sent
+    pub did-status : (r0 r1 : List Row) (x0 x1 : List ℕ) (status : ℕ) → (m.command.code == c_cancel) ≡ false
+        → status_alone status ≡ (message_outcome a c (limits_of i) m (of i.name r0)).0
+        → r1 ≡ after (by i.name (message_outcome a c (limits_of i) m (of i.name r0)).1) r0
+        → x1 ≡ x0 ++ command_octets c a.limit m.command status false → Does None r0 r1 x0 x1 None
+    did-status r0 r1 x0 x1 status h answered done added =
+        did-served r0 r1 x0 x1 (status_alone status) (unsent m.command (status_alone status)) None h answered done refl
+        (final-sent x0 x1 (command_octets c a.limit m.command status false) added) refl
+
+    -- its edits were made, and not all of what answers it could be sent
     pub part-served : (r0 r1 : List Row) (IsLeft : List Row → Type 0) → (m.command.code == c_cancel) ≡ false
         → r1 ≡ after (by i.name (message_outcome a c (limits_of i) m (of i.name r0)).1) r0 → ((r : List Row) → IsLeft r → r ≡ r1)
         → DoesPart None r0 r1 IsLeft

@@ -18,8 +18,10 @@ use Rattle.dq_archive.specs.PastArchives.{IsSame, state_in, records_in}
 use Rattle.dq_find.specs.OpenSearches.{left_of}
 use Rattle.dq_core.specs.declared.answers.Answers.{Answers}
 use Rattle.dq_core.specs.declared.answers.Answers.TheVariants as answers
+use Rattle.dq_core.specs.declared.answers.MessageOutcome.{MessageOutcome}
+use Rattle.dq_core.specs.declared.answers.MessageOutcome.TheVariants as outcome
 use Rattle.dq_core.specs.declared.pages.OpenQuery.{OpenQuery as HeldQuery}
-use Rattle.dq_core.specs.Services.{response_command, responses}
+use Rattle.dq_core.specs.Services.{response_command, responses, status_alone}
 use Rattle.dq_core.specs.Pages.{OpenQuery}
 
 -- the answers that were found and not sent
@@ -47,6 +49,11 @@ found_left records it = record {
   optional = optional_of it;
   answers = at_hand it ++ to_be_found records it;
 }
+
+-- what is found for a message, by its outcome
+abbrev pub outcome_found : List Record → MessageOutcome → Found
+outcome_found records (outcome.Status status) = status_alone status
+outcome_found records (outcome.Answers it) = found_left records it
 
 -- the responses that a query which is held has left
 abbrev pub open_query_of : List Record → HeldQuery → OpenQuery

@@ -7,6 +7,7 @@ use Rattle.dq_config.specs.Routing.{institution_named}
 use Rattle.dq_dataset.specs.Tree.{ElementList}
 use Rattle.dq_match.specs.declared.responses.Found.{Found}
 use Rattle.dq_find.specs.Queries as study
+use Rattle.dq_find.specs.StudyImages.{study_outcome}
 use Rattle.dq_worklist.specs.Queries as worklist
 use Rattle.dq_tables.specs.declared.row.Kind.TheVariants.{Step}
 use Rattle.dq_tables.specs.declared.row.Row.{Row}
@@ -14,7 +15,7 @@ use Rattle.dq_tables.specs.Rows.{Record, of}
 use Rattle.dq_tables.specs.Lookups.{records_of}
 use Rattle.dq_tables.specs.Records.{data_set_of}
 use Rattle.dq_core.specs.declared.showing.SearchKind.{SearchKind}
-use Rattle.dq_core.specs.declared.showing.SearchKind.TheVariants.{StudyRoot, Worklist}
+use Rattle.dq_core.specs.declared.showing.SearchKind.TheVariants.{StudyRoot, StudyImages, Worklist}
 use Rattle.dq_core.specs.declared.showing.ShownPage.{ShownPage}
 
 -- the most that a page shows
@@ -25,10 +26,11 @@ page_most = 1000
 abbrev pub shown_page : {A : Type 0} → ShownPage → List A → List A
 shown_page page all = take (min page.limit page_most) (drop page.offset all)
 
--- The result of a search by keys, as in a C-FIND (PS3.4 sections C.4.1 and K.4.1). Nobody called a title, so the
--- answers of Study Root show an empty one.
+-- The result of a search by keys, as in a C-FIND (PS3.4 sections C.4.1 and K.4.1), or over all series of a study (PS3.18
+-- section 10.6.1). Nobody called a title, so the answers of Study Root show an empty one.
 unfoldable pub found_in : SearchKind → ElementList → List Record → Found
 found_in StudyRoot keys records = study.keys_outcome records [] keys
+found_in StudyImages keys records = study_outcome records keys
 found_in Worklist keys records = worklist.keys_outcome records keys
 
 -- a page of what was found; a refusal has no answers

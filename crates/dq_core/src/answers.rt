@@ -1,4 +1,4 @@
-//! The answers to a query that were not sent.
+//! The outcome of a message, and the answers to a query that were not sent.
 ghost use Rattle.std.specs.Prelude.{◌≡◌, ◌∷◌, [], length, IfOk, OnOk, MatchOption};
 ghost use Rattle.dq_dataset.specs.Canonical.{canonical};
 ghost use Rattle.dq_dataset.specs.Tree.{ElementList};
@@ -18,6 +18,13 @@ use std::alloc::{AllocError, Global};
 pub(crate) enum Answers {
     Found(AnswerQueue),
     Lazy(LazyAnswers),
+}
+
+/// The outcome of a message: a status without answers, or the answers to a C-FIND and its status.
+#[derive(Drop)]
+pub(crate) enum MessageOutcome {
+    Status(u16),
+    Answers(Answers),
 }
 
 impl Answers {

@@ -208,25 +208,18 @@ impl EventNotes {
         }
     }
 
-    /// The allocator that they were made with.
-    pub(crate) fn alloc(&self) -> Global {
-        self.alloc
-    }
-
-    /// Whether what is served is noted.
-    pub(crate) fn are_kept(&self) -> bool {
-        self.is_kept
-    }
-
     /// Returns what is to be noted of a message of a service, once its last response is sent.
     /// Returns `None` if nothing is noted, or if there is no memory for it.
     pub(crate) fn begin(
         &mut self,
         service: Service,
-        identifier: Option<&DataSet>,
+        identifier: Option<DataSet>,
     ) -> Option<ServedNote> {
+        if !self.is_kept {
+            return None;
+        }
         let query = match identifier {
-            Some(identifier) => match summary_of(self.alloc, service, identifier) {
+            Some(identifier) => match summary_of(self.alloc, service, &identifier) {
                 Ok(query) => Some(query),
                 Err(AllocError) => {
                     self.lose();

@@ -85,16 +85,38 @@ fn pending_status(optional: bool) -> u16
 /// Where responses go: the context and the command of the message that they answer, and the longest
 /// PDU that the peer takes.
 #[derive(Clone, Copy)]
-struct Recipient<'a> {
+pub(crate) struct Recipient<'a> {
     alloc: Global,
     context: AcceptedContext,
     command: &'a Command,
     limit: PeerLimit,
 }
 
-impl Recipient<'_> {
+impl<'a> Recipient<'a> {
+    pub(crate) fn new(
+        alloc: Global,
+        context: AcceptedContext,
+        command: &'a Command,
+        limit: PeerLimit,
+    ) -> Self
+        ensures { (result.context ≡ context) × (result.command.now ≡ command.now)
+            × (result.limit ≡ limit) }
+    {
+        Recipient {
+            alloc,
+            context,
+            command,
+            limit,
+        }
+    }
+
     /// Adds the command set of a response with a status.
-    fn put_command(self, status: u16, with_data: bool, out: &mut Vec<u8>) -> Result<(), AllocError>
+    pub(crate) fn put_command(
+        self,
+        status: u16,
+        with_data: bool,
+        out: &mut Vec<u8>,
+    ) -> Result<(), AllocError>
         ensures { OnOk result (out.new.items ≡ out.old.items ++ command_octets self.entry.context
             self.entry.limit self.entry.command.now status with_data) }
     {
@@ -115,12 +137,7 @@ impl OpenQuery {
         ensures { (result.context ≡ self.now.context)
             × (result.command.now ≡ self.now.command) × (result.limit ≡ self.now.limit) }
     {
-        Recipient {
-            alloc,
-            context: self.context,
-            command: &self.command,
-            limit: self.limit,
-        }
+        Recipient::new(alloc, self.context, &self.command, self.limit)
     }
 
     /// Sends so many of the pending responses that are at hand.

@@ -7,22 +7,22 @@ ghost use Rattle.dq_assoc.specs.Holding.{accepted_by};
 ghost use Rattle.dq_config.specs.Limits.{limits_of};
 ghost use Rattle.dq_tables.specs.Rows.{Record, of};
 ghost use Rattle.dq_find.specs.LazyAnswers.{found_then};
-ghost use Rattle.dq_core.specs.Services.{command_field_of, status_alone, operation_outcome, message_outcome};
+ghost use Rattle.dq_core.specs.Services.{command_field_of, operation_outcome, message_outcome};
 ghost use Rattle.dq_core.specs.Stepping.{HealthAfter, MayLeaveAfter};
 ghost use Rattle.dq_tables.specs.TableStates.{Reads};
 ghost use Rattle.dq_core.specs.Pages.{rest, page};
 ghost use Rattle.dq_core.specs.declared.pages.OpenQuery.{OpenQuery as HeldQuery};
 ghost use Rattle.dq_core.specs.Effects.{Operates, AnswerApplied, AnswerPartlyApplied, Taken as Pure, served_answer, messages_answer, taken_answer};
 ghost use Rattle.dq_archive.specs.Additions.{IsTold};
-ghost use Rattle.dq_core.specs.Queries.{found_left, open_query_of, records_since, query_then, IsBegun};
+ghost use Rattle.dq_core.specs.Queries.{outcome_found, open_query_of, records_since, query_then, IsBegun};
 ghost use Rattle.dq_core.specs.Slots.{IsTaken};
 
 use crate::answer_queue::AnswerQueue;
-use crate::answers::Answers;
+use crate::answers::{Answers, MessageOutcome};
 use crate::dimse_operation::DimseOperation;
 use crate::fault::Fault;
-use crate::notes::{EventNotes, ServedNote};
-use crate::pages::OpenQuery;
+use crate::notes::EventNotes;
+use crate::pages::{OpenQuery, Recipient};
 use crate::slot::Taken;
 use dq_archive::{Addition, Past};
 use dq_assoc::{AcceptedContext, Agreement};
@@ -36,7 +36,7 @@ use dq_mpps::{create, set};
 use dq_store::store_telling;
 use dq_tables::laws::{honest_rows_are_sound, own_records_are_edited};
 use dq_tables::{TableFault, Tables};
-use dq_worklist::query;
+use dq_worklist::query_with_identifier;
 use std::alloc::{AllocError, Global};
 
 /// Who serves the messages of a connection: the institution that has it, by what is agreed on it.
@@ -60,47 +60,21 @@ pub(crate) struct Answered {
     pub query: Option<OpenQuery>,
 }
 
-/// A status without answers.
-fn status_alone(alloc: Global, status: u16) -> Answers
-    ensures { (records : List Record) → found_left records result ≡ status_alone status }
-{
-    all_found(
-        alloc,
-        Found {
-            status,
-            optional: false,
-            answers: Listed::empty(alloc),
-        },
-    )
-}
-
 /// Answers that were all found.
-fn all_found(alloc: Global, found: Found) -> Answers
-    ensures { (records : List Record) → found_left records result ≡ found }
+fn all_found(alloc: Global, found: Found) -> MessageOutcome
+    ensures { (records : List Record) → outcome_found records result ≡ found }
 {
-    Answers::Found(AnswerQueue::new(alloc, found))
+    MessageOutcome::Answers(Answers::Found(AnswerQueue::new(alloc, found)))
 }
 
 /// The answers to a query that began, or the status that refuses it.
-fn lazy_or_refused(alloc: Global, asked: Result<LazyAnswers, u16>) -> Answers
-    ensures { (records : List Record) → found_left records result ≡ found_then asked records }
+fn lazy_or_refused(asked: Result<LazyAnswers, u16>) -> MessageOutcome
+    ensures { (records : List Record) → outcome_found records result ≡ found_then asked records }
 {
     match asked {
-        Ok(lazy) => Answers::Lazy(lazy),
-        Err(status) => status_alone(alloc, status),
+        Ok(lazy) => MessageOutcome::Answers(Answers::Lazy(lazy)),
+        Err(status) => MessageOutcome::Status(status),
     }
-}
-
-/// The identifier of a C-FIND, where it can be read.
-fn identifier(
-    alloc: Global,
-    message: &Message,
-    syntax: Syntax,
-) -> Result<Option<DataSet>, AllocError> {
-    if message.command.code != command_field::C_FIND {
-        return Ok(None);
-    }
-    Ok(message.identifier(alloc, syntax)?.ok())
 }
 
 impl<'a> Provider<'a> {
@@ -114,7 +88,8 @@ impl<'a> Provider<'a> {
         }
     }
 
-    /// Makes the edits of an operation, and answers it. Each operation has its place here.
+    /// Makes the edits of an operation, and answers it. Each operation has its place here. Gives back
+    /// the identifier of a C-FIND too, if it can be read.
     fn perform<T: Tables>(
         self,
         operation: DimseOperation,
@@ -122,7 +97,7 @@ impl<'a> Provider<'a> {
         syntax: Syntax,
         tables: &mut T,
         log: &mut Listed<Addition>,
-    ) -> Result<Answers, Fault>
+    ) -> Result<(MessageOutcome, Option<DataSet>), Fault>
         requires { command_field_of operation ≡ message.now.command.code }
         ensures serves { (sent : Received) → Refines syntax message.now sent →
             Operates (T.state tables.old) (T.state tables.new) self.entry.institution.now.name
@@ -139,42 +114,46 @@ impl<'a> Provider<'a> {
             institution,
             agreement,
         } = self;
-        let alloc = tables.alloc();
         match operation {
-            DimseOperation::Echo => Ok(status_alone(alloc, status::SUCCESS)),
+            DimseOperation::Echo => Ok((MessageOutcome::Status(status::SUCCESS), None)),
             DimseOperation::Store => {
                 let status = store_telling(tables, institution, message, syntax, log)?;
-                Ok(status_alone(alloc, status))
+                Ok((MessageOutcome::Status(status), None))
             }
             DimseOperation::FindStudies => {
                 let called = &agreement.called;
-                let asked = begin_find(tables, institution, called, message, syntax)?;
-                Ok(lazy_or_refused(alloc, asked))
+                let (asked, identifier) = begin_find(tables, institution, called, message, syntax)?;
+                Ok((lazy_or_refused(asked), identifier))
             }
             DimseOperation::FindEntries => {
-                let found = query(tables, institution, message, syntax)?;
-                Ok(all_found(alloc, found))
+                let (found, identifier) = query_with_identifier(
+                    tables,
+                    institution,
+                    message,
+                    syntax,
+                )?;
+                Ok((all_found(tables.alloc(), found), identifier))
             }
             DimseOperation::CreateStep => {
                 let status = create(tables, institution, message, syntax)?;
-                Ok(status_alone(alloc, status))
+                Ok((MessageOutcome::Status(status), None))
             }
             DimseOperation::SetStep => {
                 let status = set(tables, institution, message, syntax)?;
-                Ok(status_alone(alloc, status))
+                Ok((MessageOutcome::Status(status), None))
             }
         }
     }
 
     /// The outcome of a message that has a response: its refusal, or that of its operation. The
-    /// operation is tested first, and then the class (PS3.7 annex C).
+    /// operation is tested first, and then the class (PS3.7 annex C). Gives back what `perform` does.
     fn outcome<T: Tables>(
         self,
         context: AcceptedContext,
         message: &Message,
         tables: &mut T,
         log: &mut Listed<Addition>,
-    ) -> Result<Answers, Fault>
+    ) -> Result<(MessageOutcome, Option<DataSet>), Fault>
         ensures serves { (sent : Received) → Refines context.syntax message.now sent →
             Operates (T.state tables.old) (T.state tables.new) self.entry.institution.now.name
             (message_outcome self.entry.agreement.now context
@@ -187,26 +166,15 @@ impl<'a> Provider<'a> {
     {
         let command = &message.command;
         let Some(operation) = DimseOperation::of(context.class.service(), command.code) else {
-            return Ok(status_alone(tables.alloc(), status::UNRECOGNIZED_OPERATION));
+            return Ok((MessageOutcome::Status(status::UNRECOGNIZED_OPERATION), None));
         };
         if command.sop_class.as_slice() != context.class.uid() {
-            return Ok(status_alone(tables.alloc(), status::SOP_CLASS_NOT_SUPPORTED));
+            return Ok((
+                MessageOutcome::Status(status::SOP_CLASS_NOT_SUPPORTED),
+                None,
+            ));
         }
         self.perform(operation, message, context.syntax, tables, log)
-    }
-
-    /// Returns what is to be noted of a message, if notes are kept.
-    fn note(
-        self,
-        context: AcceptedContext,
-        message: &Message,
-        notes: &mut EventNotes,
-    ) -> Option<ServedNote> {
-        if !notes.are_kept() {
-            return None;
-        }
-        let identifier = identifier(notes.alloc(), message, context.syntax).unwrap_or(None);
-        notes.begin(context.class.service(), identifier.as_ref())
     }
 
     /// Serves a message while no C-FIND is open: makes its edits, and sends the first page of its
@@ -254,18 +222,31 @@ impl<'a> Provider<'a> {
                 query: None,
             });
         }
-        let answers = self.outcome(context, &message, tables, log)?;
-        let note = self.note(context, &message, notes);
+        let (outcome, identifier) = self.outcome(context, &message, tables, log)?;
+        let note = notes.begin(context.class.service(), identifier);
+        let limit = self.agreement.limit;
+        let mut octets = octets;
+        let answers = match outcome {
+            MessageOutcome::Answers(answers) => answers,
+            MessageOutcome::Status(status) => {
+                let recipient = Recipient::new(tables.alloc(), context, &message.command, limit);
+                recipient.put_command(status, false, &mut octets)?;
+                notes.serve(note, status);
+                return Ok(Answered {
+                    octets,
+                    query: None,
+                });
+            }
+        };
         let query = OpenQuery {
             context,
             command: message.command,
-            limit: self.agreement.limit,
+            limit,
             answers,
             since: log.len(),
             note,
         };
         let scope = self.search_scope(log.as_slice());
-        let mut octets = octets;
         let query = send_page(scope, query, tables, &mut octets, notes)?;
         Ok(Answered { octets, query })
     }

@@ -8,7 +8,7 @@ ghost use Rattle.dq_core.specs.Showing.{found_in, page_most, steps_in, shown_pag
 
 use dq_config::Institution;
 use dq_dataset::DataSet;
-use dq_find::find_by_keys;
+use dq_find::{find_by_keys, find_in_study};
 use dq_list::Listed;
 use dq_match::Found;
 use dq_tables::{Kind, Row, TableFault, Tables};
@@ -23,6 +23,8 @@ const PAGE_MOST: usize = 1000;
 pub enum SearchKind {
     /// Studies, series or images, by the Query/Retrieve Level of the keys (PS3.4 annex C).
     StudyRoot,
+    /// Images of all series of a study (PS3.18 section 10.6.1).
+    StudyImages,
     /// Entries of the worklist that wait (PS3.4 annex K).
     Worklist,
 }
@@ -59,6 +61,7 @@ pub(crate) fn search_page<T: Tables>(
     let most = page.most();
     match kind {
         SearchKind::StudyRoot => find_by_keys(tables, institution, keys, page.offset, most),
+        SearchKind::StudyImages => find_in_study(tables, institution, keys, page.offset, most),
         SearchKind::Worklist => query_by_keys(tables, institution, keys, page.offset, most),
     }
 }

@@ -20,3 +20,4 @@ mod PastRecords
 mod SearchPages
 pub mod LastingRecords
 mod FoundAnswers
+mod StudyImages

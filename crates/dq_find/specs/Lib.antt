@@ -10,4 +10,5 @@ pub mod Pages
 pub mod OpenSearches
 pub mod PartialAnswers
 pub mod LazyAnswers
+pub mod StudyImages
 pub mod Examples

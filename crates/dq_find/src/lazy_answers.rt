@@ -1,7 +1,9 @@
 //! The answers to a query, found as they are asked for.
 ghost use Rattle.std.specs.Prelude.{◌≡◌, ◌<◌, ◌++◌, ◌∷◌, [], true, length, IfOk, OnOk, MatchOption};
+ghost use Rattle.std.specs.Result.{result_ok};
 ghost use Rattle.dq_dimse.specs.Statuses.{success};
 ghost use Rattle.dq_dimse.specs.Holding.{plain_message};
+ghost use Rattle.dq_dimse.specs.Receiving.{identifier_in};
 ghost use Rattle.dq_match.specs.Answers.{found_part};
 ghost use Rattle.dq_match.specs.Identifiers.{HasKnownTags};
 ghost use Rattle.dq_match.specs.Parts.{part_of, found_of};
@@ -55,24 +57,27 @@ impl Model for LazyAnswers {
 
 /// Begins to answer a Study Root C-FIND from the records of an institution. The answers are those of
 /// `find` at this moment, and are found as they are asked for; the statuses that refuse it are the
-/// same.
+/// same. Gives back the identifier too, if it can be read.
 pub fn begin_find<T: Tables>(
     tables: &mut T,
     institution: &Institution,
     called: &[u8],
     message: &Message,
     syntax: Syntax,
-) -> Result<Result<LazyAnswers, u16>, TableFault>
-    ensures found { (T.state tables.new).honest → IfOk result (λ asked.
-        found_then asked (of institution.now.name (T.state tables.old).rows)
+) -> Result<(Result<LazyAnswers, u16>, Option<DataSet>), TableFault>
+    ensures found { (T.state tables.new).honest → IfOk result (λ begun.
+        found_then begun.0 (of institution.now.name (T.state tables.old).rows)
         ≡ query_outcome (of institution.now.name (T.state tables.old).rows) called.now
         (plain_message message.now) syntax) }
+    ensures identifier { IfOk result (λ begun.
+        begun.1 ≡ result_ok (identifier_in (plain_message message.now) syntax)) }
     ensures reads { Reads (T.state tables.old) (T.state tables.new) result }
 {
     let mut archive = Past::new(tables, institution, &[]);
-    let asked = query_of(archive.alloc, message, syntax)?;
+    let identifier = message.identifier(archive.alloc, syntax)?;
+    let asked = query_of(archive.alloc, &identifier)?;
     let found = begin_at(&mut archive, called, asked)?;
-    Ok(found)
+    Ok((found, identifier.ok()))
 }
 
 /// Answers a Study Root C-FIND from the records of an institution: of the query's level those that
@@ -92,7 +97,8 @@ pub fn find<T: Tables>(
         (λ records. (query_outcome records called.now (plain_message message.now) syntax, [])) result }
 {
     let mut past = Past::new(tables, institution, &[]);
-    let asked = query_of(past.alloc, message, syntax)?;
+    let identifier = message.identifier(past.alloc, syntax)?;
+    let asked = query_of(past.alloc, &identifier)?;
     let found = answers_to(&mut past, called, asked, 0, None)?;
     Ok(found)
 }

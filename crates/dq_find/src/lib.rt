@@ -11,6 +11,7 @@ mod pages;
 mod query;
 mod search;
 mod study_choice;
+mod study_images;
 mod texts;
 
 pub use lazy_answers::{LazyAnswers, begin_find, find, find_by_keys};
@@ -18,3 +19,4 @@ pub use level::Level;
 pub use open_search::OpenSearch;
 pub use pages::Pages;
 pub use query::Query;
+pub use study_images::find_in_study;

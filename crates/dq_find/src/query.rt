@@ -1,13 +1,11 @@
-//! The query in a message (PS3.4 section C.4.1.2).
+//! The query of an identifier (PS3.4 section C.4.1.2).
 ghost use Rattle.std.specs.Prelude.{◌≡◌, IfOk};
-ghost use Rattle.dq_dimse.specs.Holding.{plain_message};
 ghost use Rattle.dq_match.specs.Identifiers.{HasKnownTags};
 ghost use Rattle.dq_find.specs.Levels.{level_of};
-ghost use Rattle.dq_find.specs.Queries.{level_query, message_query};
+ghost use Rattle.dq_find.specs.Queries.{level_query, identifier_query};
 
 use crate::level::Level;
-use dq_dataset::{DataSet, Syntax};
-use dq_dimse::Message;
+use dq_dataset::DataSet;
 use dq_dimse::status::DOES_NOT_MATCH_SOP_CLASS;
 use dq_match::{is_query, strike};
 use std::alloc::{AllocError, Global};
@@ -20,20 +18,19 @@ pub struct Query {
     pub optional: bool,
 }
 
-/// The query of a message, or the status that refuses it: the identifier is too long, unreadable,
-/// names no level, lacks a unique key of a level above, or has a value that is not well formed.
-#[tactic(auto, unfolding(crate::specs::Queries::message_query))]
+/// The query of the identifier of a message, or the status that refuses it: the identifier is too
+/// long, unreadable, names no level, lacks a unique key of a level above, or has a value that is not
+/// well formed.
 pub(crate) fn query_of(
     alloc: Global,
-    message: &Message,
-    syntax: Syntax,
+    identifier: &Result<DataSet, u16>,
 ) -> Result<Result<Query, u16>, AllocError>
-    ensures query { IfOk result (λ q. q ≡ message_query (plain_message message.now) syntax) }
+    ensures query { IfOk result (λ q. q ≡ identifier_query identifier.now) }
     ensures known { IfOk result (λ q. IfOk q (λ query. HasKnownTags query.keys)) }
 {
-    match message.identifier(alloc, syntax)? {
-        Ok(identifier) => query_at(alloc, &identifier),
-        Err(status) => Ok(Err(status)),
+    match identifier {
+        Ok(identifier) => query_at(alloc, identifier),
+        Err(status) => Ok(Err(*status)),
     }
 }
 

@@ -8,6 +8,7 @@ ghost use Rattle.dq_archive.specs.PastArchives.{QueriesOnly};
 ghost use Rattle.dq_find.specs.StudyChoice.{is_asked};
 ghost use Rattle.dq_find.specs.Candidates.{looks_up, is_under, named_record, named_rows, looked_up};
 ghost use Rattle.dq_find.specs.OpenSearches.{NamesCandidates};
+ghost use Rattle.dq_find.specs.StudyImages.{TakesAnswers};
 ghost use Rattle.dq_find.specs.ComputedKeys.{computed_keys};
 ghost use Rattle.dq_value.specs.Parts.{element_values};
 ghost use Rattle.dq_vr.specs.declared.Vr.TheVariants.{UI};
@@ -23,7 +24,7 @@ use dq_archive::Past;
 use dq_dataset::DataSet;
 use dq_list::Listed;
 use dq_match::laws::keys_are_met_alone_and_as_a_period;
-use dq_match::{PreparedKeys, in_order, shown};
+use dq_match::{PageCollector, PreparedKeys, in_order, shown};
 use dq_tables::laws::honest_rows_are_sound;
 use dq_tables::{Kind, Row, TableFault, Tables, uid_at};
 use dq_value::{stripped, values};
@@ -79,7 +80,7 @@ fn about_answers(alloc: Global, called: &[u8], level: Level) -> Result<DataSet, 
 }
 
 /// The value of a unique key of a level above, which is there.
-fn key_above(keys: &DataSet, tag: Tag) -> &[u8]
+pub(crate) fn key_above(keys: &DataSet, tag: Tag) -> &[u8]
     ensures { result.now ≡ key_above tag keys.now }
 {
     match uid_at(keys, tag) {
@@ -316,6 +317,30 @@ impl Search<'_> {
             }
         }
         Ok(answers)
+    }
+
+    /// Takes the answers that some rows give into a page, in their order. No row is looked at once it is full.
+    pub(crate) fn take_answers<T: Tables>(
+        &self,
+        archive: &mut Past<'_, T>,
+        rows: &[Row],
+        page: &mut PageCollector,
+    ) -> Result<(), TableFault>
+        requires known { HasKnownTags self.now.query.now.keys }
+        requires prepared { self.now.prepared.now ≡ self.now.query.now.keys }
+        ensures { TakesAnswers T.state archive.old archive.new page.old page.new (λ records. filter_map
+            (λ (row : TheRow). record_answer records self.now.called.now self.now.query.now
+            (record_of row)) rows.now) result }
+    {
+        let about = about_answers(archive.alloc, self.called, self.query.level)?;
+        for row in rows {
+            if page.is_full() {
+                return Ok(());
+            }
+            let answer = self.answer_of(archive, &about, row)?;
+            page.take(answer)?;
+        }
+        Ok(())
     }
 }
 

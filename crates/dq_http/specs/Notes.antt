@@ -5,17 +5,16 @@ use Rattle.std.specs.Prelude.{◌≡◌, ◌==◌, ℕ, ◌++◌, Bool, ◌||◌
 use Rattle.std.specs.Char.{is_ascii_graphic, is_ascii_uppercase, is_ascii_digit}
 use Rattle.std.specs.Fmt.{decimal}
 use Rattle.std.specs.List.{list_all}
-use Rattle.std.specs.Net.Text.{ip_text, socket_text}
-use Rattle.std.specs.Net.Addr.{ipv4_octets, ipv6_segments}
+use Rattle.std.specs.Net.Text.{ip_text}
 use Rattle.std.specs.Net.Socket.{socket_ip}
-use Rattle.std.specs.Str.{bytes_eq}
 use Rattle.std.specs.declared.net.ip_addr.IpAddr.{IpAddr}
-use Rattle.std.specs.declared.net.ip_addr.IpAddr.TheVariants.{V4, V6}
 use Rattle.std.specs.declared.net.socket_addr.SocketAddr.{SocketAddr}
 use Rattle.dq_list.specs.Lengths.{is_empty}
 use Rattle.dq_web.specs.declared.cutting.Head.{Head}
 use Rattle.dq_web.specs.declared.status.Status.{Status}
 use Rattle.dq_web.specs.Responses.{status_code}
+use Rattle.dq_wires.specs.LogWords.{peer_text}
+use Rattle.dq_wires.specs.SocketLimits.{is_same_address}
 use Rattle.dq_http.specs.declared.request_log.Sender.{Sender}
 
 -- an octet that is no graphic character of ASCII is told as a question mark: no request can write lines of the log
@@ -52,20 +51,10 @@ abbrev pub words_text : List ℕ → Head → List ℕ
 words_text label head = let parts = parts_of (path_of head.target.now) in
     told_text label ++ codes " " ++ told_text head.method.now ++ codes " " ++ told_text parts.0 ++ codes " " ++ told_text parts.1
 
-abbrev pub is_same_address : IpAddr → IpAddr → Bool
-is_same_address (V4 one) (V4 other) = bytes_eq (ipv4_octets one) (ipv4_octets other)
-is_same_address (V6 one) (V6 other) = bytes_eq (ipv6_segments one) (ipv6_segments other)
-is_same_address one other = false
-
 -- a peer has this address
 abbrev pub has_address : Option SocketAddr → IpAddr → Bool
 has_address None address = false
 has_address (Some peer) address = is_same_address (socket_ip peer) address
-
--- the address of a peer, and a hyphen where it is not known
-abbrev pub peer_text : Option SocketAddr → List ℕ
-peer_text None = codes "-"
-peer_text (Some peer) = socket_text peer
 
 -- one for whom no proxy has spoken
 abbrev pub direct_sender : Option SocketAddr → Sender

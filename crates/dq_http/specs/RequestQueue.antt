@@ -1,11 +1,15 @@
 -- Which request is answered next.
-use Rattle.std.specs.Prelude.{◌≡◌, ◌⊎◌, ℕ, ◌+◌, ◌++◌, List, [], ◌∷◌, take, drop, position, slice_get, slice_set, Option, Some, None}
+use Rattle.std.specs.Prelude.{◌≡◌, ◌⊎◌, ℕ, ◌+◌, ◌++◌, List, [], ◌∷◌, take, drop, position, slice_get, slice_set, remove, Option, Some, None}
 use Rattle.std.specs.Option.{option_and_then}
 use Rattle.dq_config.specs.declared.config.Institution.{Institution}
 use Rattle.dq_request.specs.declared.request.Request.{Request}
 use Rattle.dq_request.specs.declared.response.Response.{Response}
 use Rattle.dq_web.specs.declared.guard.Guard.{Guard}
 use Rattle.dq_web.specs.declared.keys.Keys.{Keys}
+use Rattle.dq_wires.specs.declared.calls.Call.{Call}
+use Rattle.dq_wires.specs.declared.calls.Call.TheVariants.{Shut}
+use Rattle.dq_wires.specs.ConnectionActions.{Shutting}
+use Rattle.dq_wires.specs.Logs.{Logs}
 use Rattle.dq_http.specs.declared.http_server.HttpServer.{HttpServer}
 use Rattle.dq_http.specs.declared.http_connection.HttpConnection.{HttpConnection}
 use Rattle.dq_http.specs.HttpConnections.{is_waiting, asked_in, AnswersAt, HasTurn}
@@ -41,6 +45,13 @@ AnswersOne institutions (Some at) old new response = (connection : HttpConnectio
 abbrev pub Answers : List Institution → List HttpConnection → List HttpConnection → Response → Type 0
 Answers institutions old new response = AnswersOne institutions (first_waiting old) old new response
 
+-- The connection at a place is let go: its place is shut, and nothing else is called. All others are as they were, in
+-- their order.
+abbrev pub LetsOneGo : Option ℕ → List HttpConnection → List HttpConnection → Option (List Call) → Option (List Call) → Type 0
+LetsOneGo None old new before after = (new ≡ old) × (after ≡ before)
+LetsOneGo (Some at) old new before after = (connection : HttpConnection) × (shut : Shutting)
+    × (slice_get old at ≡ Some connection) × (new ≡ remove old at) × Logs before after (Shut connection.place shut)
+
 -- ---- all turns
 
 -- Each connection has its turn, in their order, and is kept as that leaves it, or is let go.
@@ -64,6 +75,12 @@ next_of server = waiting_request server.connections.items
 abbrev pub Answered : {Wired : Type 0} → HttpServer Wired → HttpServer Wired → Response → Type 0
 Answered old new response = Answers old.state.institutions.items old.connections.items new.connections.items response
     × (new.wires ≡ old.wires) × (new.state ≡ old.state) × (new.peer_connections ≡ old.peer_connections)
+
+-- That of the request that waits first is let go. Only the connections change, and the calls of the wires.
+abbrev pub LetsGo : {Wired : Type 0} → Option (List Call) → Option (List Call) → HttpServer Wired → HttpServer Wired → Type 0
+LetsGo before after old new =
+    LetsOneGo (first_waiting old.connections.items) old.connections.items new.connections.items before after
+    × (new.state ≡ old.state) × (new.peer_connections ≡ old.peer_connections)
 
 -- Connections are let in, all have their turns, and idle ones give way to those that come next.
 abbrev pub Attended : {Wired : Type 0} → HttpServer Wired → HttpServer Wired → Type 0

@@ -3,7 +3,7 @@ ghost use Rattle.std.specs.Prelude.{◌≡◌, [], length, option_copied, IfOk};
 ghost use Rattle.std.specs.List.{filter, list_any};
 ghost use Rattle.dq_http.specs.HttpConnections.{asks_report, is_busy};
 ghost use Rattle.dq_http.specs.Places.{is_of, is_crowded, LetsIn, LetsOneIn, with_room, LeavesRoom};
-ghost use Rattle.dq_http.specs.RequestQueue.{first_waiting, next_of, Answered, Attended, with_keys};
+ghost use Rattle.dq_http.specs.RequestQueue.{first_waiting, next_of, Answered, LetsGo, Attended, with_keys};
 
 use crate::http_connection::HttpConnection;
 use crate::http_state::HttpState;
@@ -99,6 +99,17 @@ impl<W: Wires + GivesUp + Drop> HttpServer<W> {
             connection.answer(response, &self.state, &mut self.notes);
             self.connections.rotate_left(at + 1);
         }
+    }
+
+    /// Lets the connection go whose request waits first, unanswered. All others are as they were.
+    pub fn let_go(&mut self)
+        ensures { LetsGo (W.log self.old.wires) (W.log self.new.wires) self.old self.new }
+    {
+        let Some(at) = self.first_waiting() else {
+            return;
+        };
+        let connection = self.connections.remove(at);
+        let _ = self.wires.shut(connection.place);
     }
 
     /// Whether a request waits that asks for metrics.

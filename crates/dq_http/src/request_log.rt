@@ -2,7 +2,8 @@
 ghost use Rattle.std.specs.Prelude.{◌≡◌, ◌++◌, ◌==◌, [], None, position, string_bytes, take, IfOk, OnOk};
 ghost use Rattle.std.specs.List.{list_all};
 ghost use Rattle.dq_web.specs.Counting.{with_request};
-ghost use Rattle.dq_http.specs.Notes.{told_octet, told_text, is_of_name, path_of, parts_of, words_text, peer_text, sender_text, has_address, HasNote};
+ghost use Rattle.dq_wires.specs.LogWords.{peer_text};
+ghost use Rattle.dq_http.specs.Notes.{told_octet, told_text, is_of_name, path_of, parts_of, words_text, sender_text, has_address, HasNote};
 
 use dq_web::{Head, RequestCounts, Status, Written};
 use dq_wires::GivenUp;

@@ -10,6 +10,7 @@ ghost use Rattle.sqlite.specs.State.{HasCleanDisk};
 ghost use Rattle.sqlite.specs.Files.{file_state, IsOpened};
 ghost use Rattle.sqlite.specs.Start.{FindsIn};
 
+use crate::paths::make_private;
 use dq_sql::SqlTables;
 use sqlite::{Connection, Error, FileFrom, FileStore, Start};
 use sqlite_disk::Disk;
@@ -91,7 +92,9 @@ impl<S: FilesAt> HostDisk for FileFrom<S> {
 
     ghost contents = { image_at S.Start };
 
+    // The log is made with the mode of the database file.
     fn open(rt: &HostRuntime, path: &str) -> Result<Connection<FileStore<FileFrom<S>>>, Error> {
+        make_private(rt, path);
         match Connection::open_from(rt, path, false, S::begin()) {
             Ok(conn) => Ok(conn),
             Err((error, _)) => Err(error),

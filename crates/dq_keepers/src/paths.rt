@@ -2,12 +2,27 @@
 use crate::copy_fault::CopyFault;
 use dq_sql::StoreFault;
 use std::alloc::{AllocError, Global};
+use std::fs::OpenOptions;
 use std::io::{IsTerminal, Write};
+use std::os::unix::fs::OpenOptionsExt;
 use std::{fs, io};
 
 /// How many octets a store has at least, for a terminal to be told that it is read, or that a new
 /// store is written of its rows.
 const LARGE_STORE: u64 = 10_000_000;
+
+/// The mode of a file that its owner alone may read and write.
+const OWNER_ALONE: u32 = 0o600;
+
+/// Makes an empty file that its owner alone may read and write, whatever the umask, unless something is at
+/// the path. What fails here fails once more when the file is opened.
+pub(crate) fn make_private(rt: &HostRuntime, path: &str) {
+    let _ = OpenOptions::new()
+        .write(true)
+        .create_new(true)
+        .mode(OWNER_ALONE)
+        .open(rt, path);
+}
 
 /// Where the log of a file is.
 pub(crate) fn log_path(alloc: Global, path: &str) -> Result<String, CopyFault> {

@@ -10,7 +10,7 @@ use Rattle.dq_dataset.specs.declared.data_set.Element.{Element}
 use Rattle.dq_dataset.proofs.Views.{elements_of-as_elements}
 use Rattle.dq_request.specs.declared.search.Key.{Key}
 use Rattle.dq_request.specs.declared.search.Subject.{Subject}
-use Rattle.dq_request.specs.declared.search.Subject.TheVariants.{Studies, Series, Images, Worklist, Steps}
+use Rattle.dq_request.specs.declared.search.Subject.TheVariants.{Studies, Series, Images, StudyImages, Worklist, Steps}
 use Rattle.dq_request.specs.Searches.{is_of_tag, is_asked, asked_element, asked_elements, asked_identifier, identifier_of, level_of, value_in, IsMatched, matched_element}
 
 module _ (f : Entry â†’ Element) where
@@ -45,6 +45,7 @@ pub each_in_identifier : (subject : Subject) (keys : List Key) (entry : Entry) â
 each_in_identifier Studies keys entry known is = in_identifier (level_of Studies) None keys entry known is
 each_in_identifier Series keys entry known is = in_identifier (level_of Series) None keys entry known is
 each_in_identifier Images keys entry known is = in_identifier (level_of Images) None keys entry known is
+each_in_identifier StudyImages keys entry known is = in_identifier (level_of StudyImages) None keys entry known is
 each_in_identifier Worklist keys entry known is = in_identifier [] (Some (asked_identifier [] None keys)) keys entry known is
 each_in_identifier Steps keys entry known is = in_identifier [] None keys entry known is
 

@@ -23,7 +23,7 @@ use Rattle.dq_dataset.specs.declared.data_set.Value.TheVariants.{Octets, Items}
 use Rattle.dq_request.specs.declared.search.Key.{Key}
 use Rattle.dq_request.specs.declared.search.Search.{Search}
 use Rattle.dq_request.specs.declared.search.Subject.{Subject}
-use Rattle.dq_request.specs.declared.search.Subject.TheVariants.{Studies, Series, Images, Worklist, Steps}
+use Rattle.dq_request.specs.declared.search.Subject.TheVariants.{Studies, Series, Images, StudyImages, Worklist, Steps}
 
 -- ---- words
 
@@ -172,6 +172,7 @@ abbrev pub level_of : Subject → List ℕ
 level_of Studies = codes "STUDY"
 level_of Series = codes "SERIES"
 level_of Images = codes "IMAGE"
+level_of StudyImages = codes "IMAGE"
 level_of Worklist = []
 level_of Steps = []
 

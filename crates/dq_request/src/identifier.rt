@@ -19,7 +19,7 @@ impl Subject {
         match self {
             Subject::Studies => b"STUDY",
             Subject::Series => b"SERIES",
-            Subject::Images => b"IMAGE",
+            Subject::Images | Subject::StudyImages => b"IMAGE",
             Subject::Worklist | Subject::Steps => b"",
         }
     }

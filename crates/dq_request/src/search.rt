@@ -21,7 +21,10 @@ const VALUE_MOST: usize = 65_534;
 pub enum Subject {
     Studies,
     Series,
+    /// Images of one series.
     Images,
+    /// Images of all series of a study.
+    StudyImages,
     Worklist,
     Steps,
 }

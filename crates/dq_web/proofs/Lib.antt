@@ -1,6 +1,7 @@
 pub mod Opening
 pub mod Named
 pub mod Orders
+pub mod Pages
 pub mod Paths
 pub mod Taking
 pub mod Texts

@@ -14,7 +14,7 @@ use Rattle.dq_web.specs.declared.cutting.BodyForm.{BodyForm}
 use Rattle.dq_web.specs.declared.cutting.Head.{Head}
 use Rattle.dq_web.specs.declared.guard.Guard.{Guard}
 use Rattle.dq_web.specs.declared.resource.Resource.{Resource}
-use Rattle.dq_web.specs.declared.resource.Resource.TheVariants.{Metrics, Backup, Counts, Studies, Series, Images, Worklist, Entry, Steps}
+use Rattle.dq_web.specs.declared.resource.Resource.TheVariants.{Metrics, Backup, Counts, Studies, Series, Images, StudyImages, Worklist, Entry, Steps}
 use Rattle.dq_web.specs.declared.aim.Method.{Method}
 use Rattle.dq_web.specs.declared.aim.Method.TheVariants.{Get, Post, Delete, Preflight, Other}
 use Rattle.dq_web.specs.declared.aim.Method.TheVariants as method
@@ -58,6 +58,7 @@ IsSearchAt-owner : (resource : Resource) (start : Search) → IsSearchAt resourc
 IsSearchAt-owner (Studies name) start at = ap (λ (it : Search). it.institution) at
 IsSearchAt-owner (Series name study) start at = ap (λ (it : Search). it.institution) at
 IsSearchAt-owner (Images name study series) start at = ap (λ (it : Search). it.institution) at
+IsSearchAt-owner (StudyImages name study) start at = ap (λ (it : Search). it.institution) at
 IsSearchAt-owner (Worklist name) start at = ap (λ (it : Search). it.institution) at
 IsSearchAt-owner (Steps name) start at = ap (λ (it : Search). it.institution) at
 IsSearchAt-owner resource start at = absurd at
@@ -107,6 +108,7 @@ IsSearchAt-right : (resource : Resource) (start : Search) → IsSearchAt resourc
 IsSearchAt-right (Studies name) start at = refl
 IsSearchAt-right (Series name study) start at = refl
 IsSearchAt-right (Images name study series) start at = refl
+IsSearchAt-right (StudyImages name study) start at = refl
 IsSearchAt-right (Worklist name) start at = refl
 IsSearchAt-right (Steps name) start at = refl
 IsSearchAt-right resource start at = absurd at
@@ -193,6 +195,11 @@ IsSearchAt-path (Series name study) path start at is = (
       (ap (λ (it : Search). it.institution) is ∙ at.3.2.0) refl,
 )
 IsSearchAt-path (Images name study series) path start at is = (
+  at.1,
+  at_own start.institution at.0 at.1 at.1 path at.2
+      (ap (λ (it : Search). it.institution) is ∙ at.3.2.0) refl,
+)
+IsSearchAt-path (StudyImages name study) path start at is = (
   at.1,
   at_own start.institution at.0 at.1 at.1 path at.2
       (ap (λ (it : Search). it.institution) is ∙ at.3.2.0) refl,

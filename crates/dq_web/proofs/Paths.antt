@@ -3,7 +3,7 @@ use Rattle.std.proofs.Common.{◌≡◌, ◌≢◌, ◌++◌, ◌∙◌, ℕ, tr
 use Rattle.std.specs.Prelude.{◌==◌, IsTrue}
 use Rattle.std.proofs.lemmas.Bool.{and_parts, true≢false}
 use Rattle.dq_web.specs.declared.resource.Resource.{Resource}
-use Rattle.dq_web.specs.declared.resource.Resource.TheVariants.{Page, Style, Script, Health, Metrics, Backup, Counts, Studies, Series, Images, Unsearched, Worklist, Entry, Steps, Nowhere}
+use Rattle.dq_web.specs.declared.resource.Resource.TheVariants.{Page, Style, Script, Health, Metrics, Backup, Counts, Studies, Series, Images, StudyImages, Unsearched, Worklist, Entry, Steps, Nowhere}
 use Rattle.dq_web.specs.Resources.{beneath, has_no_slash, is_segment, IsPathOfStudies, IsPathBelow, IsOwnPath, HasPath, IsFound, IsPath}
 
 -- what follows a text is one
@@ -45,16 +45,18 @@ same-segment (octet ∷ one) (head ∷ other) x y first second is =
     (and_parts (has_no_slash head) (is_segment other) second).1 tails in
     (cons-same octet head one other same rest.0, rest.1)
 
--- nothing is behind a study but its series and the images of each
+-- nothing is behind a study but its series, the images of each, and all its images
 pub no-study : (institution whole study rest : List ℕ) → whole ≡ beneath study rest → IsTrue (is_segment study)
-    → rest ≢ codes "series"
+    → rest ≢ codes "series" → rest ≢ codes "instances"
     → ((series : List ℕ) → IsTrue (is_segment series) → rest ≢ codes "series/" ++ beneath series (codes "instances"))
     → (resource : Resource) → IsPathOfStudies institution whole resource → ⊥
-no-study institution whole study rest is segment not_series not_images (Series name other) has =
+no-study institution whole study rest is segment not_series not_all not_images (Series name other) has =
     not_series (same-segment study other.now rest (codes "series") segment has.2 (sym is ∙ has.1)).1
-no-study institution whole study rest is segment not_series not_images (Images name other series) has =
+no-study institution whole study rest is segment not_series not_all not_images (Images name other series) has =
     not_images series.now has.3 (same-segment study other.now rest _ segment has.2 (sym is ∙ has.1)).1
-no-study institution whole study rest is segment not_series not_images resource has = absurd has
+no-study institution whole study rest is segment not_series not_all not_images (StudyImages name other) has =
+    not_all (same-segment study other.now rest (codes "instances") segment has.2 (sym is ∙ has.1)).1
+no-study institution whole study rest is segment not_series not_all not_images resource has = absurd has
 
 -- texts with another octet at one place are two
 differ : (one other : List ℕ) (at octet : ℕ) → (get_or one at 0 == octet) ≡ true → (get_or other at 0 == octet) ≡ false
@@ -85,6 +87,7 @@ pub below-studies : (institution rest below : List ℕ) → rest ≡ codes "rs/s
 below-studies institution rest below is Nowhere none = λ other has. no-below institution rest below is none other has
 below-studies institution rest below is (Series name study) found = (below, is, found)
 below-studies institution rest below is (Images name study series) found = (below, is, found)
+below-studies institution rest below is (StudyImages name study) found = (below, is, found)
 below-studies institution rest below is resource found = absurd found
 
 -- a path of an institution names one institution

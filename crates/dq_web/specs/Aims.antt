@@ -20,7 +20,7 @@ use Rattle.dq_web.specs.declared.refusal.Allowed.TheVariants as allowed
 use Rattle.dq_web.specs.declared.refusal.Refusal.{Refusal}
 use Rattle.dq_web.specs.declared.refusal.Refusal.TheVariants as refusal
 use Rattle.dq_web.specs.declared.resource.Resource.{Resource}
-use Rattle.dq_web.specs.declared.resource.Resource.TheVariants.{Page, Style, Script, Health, Metrics, Backup, Counts, Studies, Series, Images, Unsearched, Worklist, Entry, Steps, Nowhere}
+use Rattle.dq_web.specs.declared.resource.Resource.TheVariants.{Page, Style, Script, Health, Metrics, Backup, Counts, Studies, Series, Images, StudyImages, Unsearched, Worklist, Entry, Steps, Nowhere}
 use Rattle.dq_web.specs.Guards.{is_preflight, IsAdmitted, IsTurnedAway}
 use Rattle.dq_web.specs.Resources.{beneath, is_segment, IsPath}
 
@@ -101,6 +101,7 @@ is_searched (Counts name) = true
 is_searched (Studies name) = true
 is_searched (Series name study) = true
 is_searched (Images name study series) = true
+is_searched (StudyImages name study) = true
 is_searched (Unsearched name) = true
 is_searched (Worklist name) = true
 is_searched (Steps name) = true
@@ -160,6 +161,7 @@ owner_of (Counts name) = name.now
 owner_of (Studies name) = name.now
 owner_of (Series name study) = name.now
 owner_of (Images name study series) = name.now
+owner_of (StudyImages name study) = name.now
 owner_of (Unsearched name) = name.now
 owner_of (Worklist name) = name.now
 owner_of (Entry name id) = name.now

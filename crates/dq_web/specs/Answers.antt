@@ -1,5 +1,5 @@
 -- How what the server answered becomes a response of HTTP.
-use Rattle.std.specs.Prelude.{◌≡◌, ℕ, ◌==◌, ◌++◌, ◌||◌, ◌&&◌, nat_le, nat_lt, Bool, false, if◌then◌else◌, List, [], ◌∷◌, flat_map, find, length, codes, Option, Some}
+use Rattle.std.specs.Prelude.{◌≡◌, ℕ, ◌==◌, ◌++◌, ◌||◌, ◌&&◌, nat_le, nat_lt, ◌+◌, ◌-◌, Bool, false, if◌then◌else◌, List, [], ◌∷◌, flat_map, find, length, take, drop, codes, Option, Some}
 use Rattle.std.specs.Fmt.{decimal}
 use Rattle.std.specs.Str.{bytes_eq}
 use Rattle.json.specs.Print.{print}
@@ -112,9 +112,33 @@ abbrev pub array_text : List ElementList → List ℕ
 array_text [] = codes "[]"
 array_text (answer ∷ answers) = codes "[" ++ json_text answer ++ flat_map behind_comma answers ++ codes "]"
 
--- A page is full where it has as many answers as it was asked for, or 1,000: there may be more behind it.
-abbrev pub is_full : ShownPage → ℕ → Bool
-is_full page count = nat_lt 0 count && (nat_le page.limit count || nat_le 1000 count)
+-- the most octets of a page's array, unless its first answer alone is longer: 8 MiB
+abbrev pub longest_array : ℕ
+longest_array = 0x800000
+
+-- The answers that have room, each behind a comma, up to the first that has none.
+abbrev pub fitting : ℕ → List ElementList → List ElementList
+fitting room [] = []
+fitting room (answer ∷ answers) = if nat_le (length (behind_comma answer)) room
+    then answer ∷ fitting (room - length (behind_comma answer)) answers else []
+
+-- A page shows the first answer, and those behind it that have room between the brackets of its array.
+abbrev pub shown_answers : List ElementList → List ElementList
+shown_answers [] = []
+shown_answers (answer ∷ answers) = answer ∷ fitting (longest_array - (length (json_text answer) + 2)) answers
+
+-- The rows of which a page shows the first answers go on, at the next offset, with the first that it leaves out.
+abbrev pub GoesOn : List ElementList → ℕ → ℕ → Type 0
+GoesOn rows offset limit =
+    let found = take limit (drop offset rows) in
+    let count = length (shown_answers found) in
+    take (limit - count) (drop (offset + count) rows) ≡ drop count found
+
+-- A page is full where it shows fewer answers than were found, or has as many as it was asked for, or 1,000: there may
+-- be more behind it.
+abbrev pub is_full : ShownPage → ℕ → ℕ → Bool
+is_full page found shown =
+    nat_lt shown found || nat_lt 0 found && (nat_le page.limit found || nat_le 1000 found)
 
 -- a response to a search, which says where matching was to be fuzzy and was not, where a parameter was passed over, and
 -- where the page is full
@@ -128,13 +152,18 @@ search_reply wish status body full = record {
   is_full = full;
 }
 
--- The response to a search: the array of the answers. Where there is none, it is without content, or an empty array
--- if that is wanted (PS3.18 section 10.6.3).
-abbrev pub found_reply : Wish → ShownPage → List ElementList → Reply
-found_reply wish page [] = if wish.wants_array then search_reply wish status.Done (codes "[]") false
+-- the response to a search that found nothing: it is without content, or an empty array if that is wanted (PS3.18
+-- section 10.6.3)
+abbrev pub empty_reply : Wish → Reply
+empty_reply wish = if wish.wants_array then search_reply wish status.Done (codes "[]") false
     else search_reply wish status.NoContent [] false
-found_reply wish page (answer ∷ answers) = search_reply wish status.Done (array_text (answer ∷ answers))
-    (is_full page (length (answer ∷ answers)))
+
+-- The response to a search: the array of the answers that the page shows. The next offset goes on behind them.
+abbrev pub found_reply : Wish → ShownPage → List ElementList → Reply
+found_reply wish page [] = empty_reply wish
+found_reply wish page (answer ∷ answers) =
+    let shown = shown_answers (answer ∷ answers) in
+    search_reply wish status.Done (array_text shown) (is_full page (length (answer ∷ answers)) (length shown))
 
 -- ---- counts
 

@@ -32,7 +32,7 @@ use Rattle.dq_web.specs.declared.keys.Right.TheVariants as right
 use Rattle.dq_web.specs.declared.resource.Resource.{Resource}
 use Rattle.dq_web.specs.declared.resource.ResourceKind.{ResourceKind}
 use Rattle.dq_web.specs.declared.resource.ResourceKind.TheVariants as kind
-use Rattle.dq_web.specs.declared.resource.Resource.TheVariants.{Page, Style, Script, Health, Metrics, Backup, Counts, Studies, Series, Images, Unsearched, Worklist, Entry, Steps}
+use Rattle.dq_web.specs.declared.resource.Resource.TheVariants.{Page, Style, Script, Health, Metrics, Backup, Counts, Studies, Series, Images, StudyImages, Unsearched, Worklist, Entry, Steps}
 use Rattle.dq_web.specs.declared.aim.Aim.{Aim}
 use Rattle.dq_web.specs.declared.aim.Method.{Method}
 use Rattle.dq_web.specs.declared.aim.Method.TheVariants.{Get, Post, Delete, Preflight, Other}
@@ -112,12 +112,17 @@ abbrev pub images_of : List ℕ → List ℕ → List ℕ → Search
 images_of name study series = hundred_of subject.Images name
     (uid_key STUDY_INSTANCE_UID study ∷ (uid_key SERIES_INSTANCE_UID series ∷ []))
 
+-- the search of the images of a study
+abbrev pub study_images_of : List ℕ → List ℕ → Search
+study_images_of name study = hundred_of subject.StudyImages name (uid_key STUDY_INSTANCE_UID study ∷ [])
+
 -- The search at a path, before its query says more (PS3.18 section 10.6.1). The UIDs of the path are its first keys,
 -- and of an attribute's keys the first counts.
 abbrev pub IsSearchAt : Resource → Search → Type 0
 IsSearchAt (Studies name) search = search ≡ hundred_of subject.Studies name.now []
 IsSearchAt (Series name study) search = search ≡ series_of name.now study.now
 IsSearchAt (Images name study series) search = search ≡ images_of name.now study.now series.now
+IsSearchAt (StudyImages name study) search = search ≡ study_images_of name.now study.now
 IsSearchAt (Worklist name) search = search ≡ hundred_of subject.Worklist name.now []
 IsSearchAt (Steps name) search = search ≡ hundred_of subject.Steps name.now []
 IsSearchAt resource search = ⊥
@@ -238,6 +243,7 @@ abbrev pub HasLongUid : Resource → Type 0
 HasLongUid (Series name study) = value_most < length (percent_decode study.now)
 HasLongUid (Images name study series) =
     (value_most < length (percent_decode study.now)) ⊎ (value_most < length (percent_decode series.now))
+HasLongUid (StudyImages name study) = value_most < length (percent_decode study.now)
 HasLongUid resource = ⊥
 
 abbrev pub IsUnsearched : Resource → Type 0

@@ -5,13 +5,14 @@ use Rattle.std.specs.List.{list_all}
 use Rattle.dq_web.specs.declared.resource.Resource.{Resource}
 use Rattle.dq_web.specs.declared.resource.ResourceKind.{ResourceKind}
 use Rattle.dq_web.specs.declared.resource.ResourceKind.TheVariants as kind
-use Rattle.dq_web.specs.declared.resource.Resource.TheVariants.{Page, Style, Script, Health, Metrics, Backup, Counts, Studies, Series, Images, Unsearched, Worklist, Entry, Steps, Nowhere}
+use Rattle.dq_web.specs.declared.resource.Resource.TheVariants.{Page, Style, Script, Health, Metrics, Backup, Counts, Studies, Series, Images, StudyImages, Unsearched, Worklist, Entry, Steps, Nowhere}
 
 -- the kind of a resource, by which requests are counted
 abbrev pub kind_of : Resource → ResourceKind
 kind_of (Studies name) = kind.Studies
 kind_of (Series name study) = kind.Series
 kind_of (Images name study series) = kind.Instances
+kind_of (StudyImages name study) = kind.Instances
 kind_of (Worklist name) = kind.Worklist
 kind_of (Entry name id) = kind.Worklist
 kind_of (Steps name) = kind.Steps
@@ -43,6 +44,8 @@ IsPathOfStudies institution rest (Series name study) =
 IsPathOfStudies institution rest (Images name study series) = (name.now ≡ institution)
     × (rest ≡ beneath study.now (codes "series/" ++ beneath series.now (codes "instances")))
     × IsTrue (is_segment study.now) × IsTrue (is_segment series.now)
+IsPathOfStudies institution rest (StudyImages name study) =
+    (name.now ≡ institution) × (rest ≡ beneath study.now (codes "instances")) × IsTrue (is_segment study.now)
 IsPathOfStudies institution rest other = ⊥
 
 -- behind the name of an institution and a slash

@@ -200,6 +200,7 @@ fn is_searched(resource: Resource<'_>) -> bool
         | Resource::Studies(_)
         | Resource::Series(..)
         | Resource::Images(..)
+        | Resource::StudyImages(..)
         | Resource::Unsearched(_)
         | Resource::Worklist(_)
         | Resource::Steps(_) => true,
@@ -312,6 +313,7 @@ pub(crate) fn owner_of<'a>(resource: Resource<'a>) -> &'a [u8]
         | Resource::Studies(name)
         | Resource::Series(name, _)
         | Resource::Images(name, _, _)
+        | Resource::StudyImages(name, _)
         | Resource::Unsearched(name)
         | Resource::Worklist(name)
         | Resource::Entry(name, _)

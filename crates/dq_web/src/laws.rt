@@ -1,9 +1,11 @@
-//! Laws that hold of each question that is asked. Each function's contract is a law; its body does
-//! nothing.
-ghost use Rattle.std.specs.Prelude.{◌≡◌, ◌≢◌, ℕ, List, String, codes, string_bytes, IsTrue, option_copied};
+//! Laws that hold of each question that is asked, and of the page that answers a search. Each function's
+//! contract is a law; its body does nothing.
+ghost use Rattle.std.specs.Prelude.{◌≡◌, ◌≢◌, ◌++◌, ◌∷◌, [], ◌<◌, ◌≤◌, ℕ, List, length, drop, String, codes, string_bytes, IsTrue, option_copied};
 ghost use Rattle.std.specs.Global.{Global};
+ghost use Rattle.dq_dataset.specs.Tree.{ElementList};
 ghost use Rattle.dq_request.specs.declared.request.Request.TheVariants as ask;
 ghost use Rattle.dq_request.specs.declared.search.Search.{Search};
+ghost use Rattle.dq_web.specs.Answers.{array_text, longest_array, shown_answers, GoesOn};
 ghost use Rattle.dq_web.specs.declared.parsed_request.ParsedRequest.TheVariants as asked;
 ghost use Rattle.dq_web.specs.declared.parsed_request.Question.{Question};
 ghost use Rattle.dq_web.specs.declared.cutting.HttpRequest.{HttpRequest};
@@ -54,4 +56,20 @@ pub fn orders_are_exact()
     ensures backs_up { (guard : Guard) (request : HttpRequest) (question : Question)
         (path : String Global) → IsQuestion guard request question
         → question.asked ≡ ask.Backup path → IsBackingUp request (string_bytes path) }
+{}
+
+/// A page shows the longest front of the answers whose array has at most 8 MiB, or the first answer where
+/// that alone has more. What it shows and what it leaves out are together the answers, in their order, and
+/// the next offset goes on with what it leaves out.
+pub fn a_page_is_the_longest_front_that_has_room()
+    ensures in_order { (answers : List ElementList)
+        → shown_answers answers ++ drop (length (shown_answers answers)) answers ≡ answers }
+    ensures goes_on { (rows : List ElementList) (offset limit : ℕ) → GoesOn rows offset limit }
+    ensures some { (answer : ElementList) (answers : List ElementList)
+        → 0 < length (shown_answers (answer ∷ answers)) }
+    ensures fits { (answers : List ElementList) → 1 < length (shown_answers answers)
+        → length (array_text (shown_answers answers)) ≤ longest_array }
+    ensures longest { (answers rest : List ElementList) (next : ElementList)
+        → answers ≡ shown_answers answers ++ next ∷ rest
+        → longest_array < length (array_text (shown_answers answers ++ next ∷ [])) }
 {}

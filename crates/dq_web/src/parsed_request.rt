@@ -9,7 +9,7 @@ ghost use Rattle.dq_request.specs.Searches.{TakesWords, StopsAt, name_in, value_
 ghost use Rattle.dq_web.specs.declared.cutting.BodyForm.TheVariants as form;
 ghost use Rattle.dq_web.specs.declared.parsed_request.Wanted.TheVariants as wanted;
 ghost use Rattle.dq_web.specs.Aims.{owner_of, right_of, is_free, IsLetIn, IsUnasked};
-ghost use Rattle.dq_web.specs.ParsedRequests.{is_printable, is_silent, is_attribute, is_unknown, is_left_out, parts_of, words_among, words_in, uid_key, hundred_of, series_of, images_of, IsSearchAt, HasNoSearch, IsSought, IsUnsought, IsLooked, HasNoLook, is_file_path, IsBackup, IsEntryPosted, IsPosted, HasNoPost, Deleting, HasNoDelete, IsWanted, HasNoWish, IsFreeAnswer, IsAimOpened, IsAimShut, IsRefusedFor, IsJudged, label_of, is_fuzzy, passes_part, wish_of, AsksNothing, IsAsked};
+ghost use Rattle.dq_web.specs.ParsedRequests.{is_printable, is_silent, is_attribute, is_unknown, is_left_out, parts_of, words_among, words_in, uid_key, hundred_of, series_of, images_of, study_images_of, IsSearchAt, HasNoSearch, IsSought, IsUnsought, IsLooked, HasNoLook, is_file_path, IsBackup, IsEntryPosted, IsPosted, HasNoPost, Deleting, HasNoDelete, IsWanted, HasNoWish, IsFreeAnswer, IsAimOpened, IsAimShut, IsRefusedFor, IsJudged, label_of, is_fuzzy, passes_part, wish_of, AsksNothing, IsAsked};
 
 use crate::aim::{Aim, Method, Unasked, is_free, let_in, owner_of, right_of};
 use crate::cutting::{BodyForm, Fields, Head, HttpRequest};
@@ -276,6 +276,17 @@ fn images_of(alloc: Global, name: &str, study: &str, series: &str) -> Result<Sea
     Ok(search)
 }
 
+/// The search of the images of a study.
+fn study_images_of(alloc: Global, name: &str, study: &str) -> Result<Search, Unasked>
+    ensures { MatchResult result (λ search. search ≡ study_images_of name.now study.now)
+        (IsUnasked (λ why. (why ≡ Refusal.Request)
+        × (value_most < length (percent_decode study.now)))) }
+{
+    let mut search = search_of(alloc, Subject::StudyImages, name)?;
+    put_uid(alloc, &mut search, tags::STUDY_INSTANCE_UID, study)?;
+    Ok(search)
+}
+
 /// The search at a path, before its query says more.
 fn search_at(alloc: Global, resource: Resource<'_>) -> Result<Search, Unasked>
     ensures { MatchResult result (IsSearchAt resource.entry)
@@ -285,6 +296,7 @@ fn search_at(alloc: Global, resource: Resource<'_>) -> Result<Search, Unasked>
         Resource::Studies(name) => Ok(search_of(alloc, Subject::Studies, name)?),
         Resource::Series(name, study) => series_of(alloc, name, study),
         Resource::Images(name, study, series) => images_of(alloc, name, study, series),
+        Resource::StudyImages(name, study) => study_images_of(alloc, name, study),
         Resource::Worklist(name) => Ok(search_of(alloc, Subject::Worklist, name)?),
         Resource::Steps(name) => Ok(search_of(alloc, Subject::Steps, name)?),
         Resource::Unsearched(_) => Err(Unasked::Refused(Refusal::Unsupported)),

@@ -15,6 +15,8 @@ pub enum Resource<'a> {
     Studies(&'a str),
     Series(&'a str, &'a str),
     Images(&'a str, &'a str, &'a str),
+    /// The images of all series of a study.
+    StudyImages(&'a str, &'a str),
     /// The series or the images of all studies, which are not searched.
     Unsearched(&'a str),
     Worklist(&'a str),
@@ -66,7 +68,7 @@ pub(crate) fn kind_of(resource: Resource<'_>) -> ResourceKind
     match resource {
         Resource::Studies(_) => ResourceKind::Studies,
         Resource::Series(..) => ResourceKind::Series,
-        Resource::Images(..) => ResourceKind::Instances,
+        Resource::Images(..) | Resource::StudyImages(..) => ResourceKind::Instances,
         Resource::Worklist(_) | Resource::Entry(..) => ResourceKind::Worklist,
         Resource::Steps(_) => ResourceKind::Steps,
         Resource::Counts(_) => ResourceKind::Counts,
@@ -106,6 +108,9 @@ fn resource_in_study<'a>(institution: &'a str, rest: &'a str) -> Resource<'a>
     };
     if rest == "series" {
         return Resource::Series(institution, study);
+    }
+    if rest == "instances" {
+        return Resource::StudyImages(institution, study);
     }
     let Some(rest) = behind(rest, "series/") else {
         return Resource::Nowhere;

@@ -1,7 +1,7 @@
 //! Responses: what the server answered, and what the front answers by itself.
-ghost use Rattle.std.specs.Prelude.{◌≡◌, ◌++◌, [], flat_map, codes, find, option_copied, IfOk, OnOk};
+ghost use Rattle.std.specs.Prelude.{◌≡◌, ◌≤◌, ◌++◌, ◌∷◌, [], suc, length, flat_map, codes, find, option_copied, IfOk, OnOk};
 ghost use Rattle.std.specs.Str.{bytes_eq};
-ghost use Rattle.dq_web.specs.Answers.{plain, escaped_octet, escaped_text, refused_reply, misspelled_reply, unreadable_reply, server_reply, order_status, search_status, copy_status, cause_status, cause_reply, behind_comma, array_text, is_full, search_reply, found_reply, limit_text, study_counts_text, step_counts_text, counts_text, is_named_so, is_counted_of, counts_reply, done_reply, IsMetricsReply, IsReplyTo, IsResponse, IsWritten, refusal_reply, document_reply, preflight_reply, health_reply};
+ghost use Rattle.dq_web.specs.Answers.{plain, escaped_octet, escaped_text, refused_reply, misspelled_reply, unreadable_reply, server_reply, order_status, search_status, copy_status, cause_status, cause_reply, behind_comma, array_text, fitting, shown_answers, is_full, search_reply, empty_reply, found_reply, limit_text, study_counts_text, step_counts_text, counts_text, is_named_so, is_counted_of, counts_reply, done_reply, IsMetricsReply, IsReplyTo, IsResponse, IsWritten, refusal_reply, document_reply, preflight_reply, health_reply};
 
 use crate::counters::Counters;
 use crate::metrics::metrics_text;
@@ -33,6 +33,9 @@ pub(crate) const CLOSE: &str = "}}";
 
 /// The most answers of a page.
 const LONGEST_PAGE: usize = 1000;
+
+/// The most octets of a page's array, unless its first answer alone is longer.
+const LONGEST_ARRAY: usize = 0x80_0000;
 
 /// A response with a body.
 fn plain(status: Status, kind: Kind, body: Vec<u8>) -> Reply
@@ -163,35 +166,63 @@ fn cause_reply(alloc: Global, cause: Cause) -> Result<Reply, AllocError>
     refused_reply(alloc, cause_status(cause), word.as_str())
 }
 
-/// Adds the JSON of each answer, behind a comma.
-fn put_others(alloc: Global, body: &mut Vec<u8>, answers: &[DataSet]) -> Result<(), AllocError>
-    ensures { OnOk result (body.new.items ≡ body.old.items ++ flat_map behind_comma answers.now) }
+/// Adds the JSON of answers, each behind a comma, up to the first that has no room. Returns how many
+/// these are.
+fn put_fitting(
+    alloc: Global,
+    body: &mut Vec<u8>,
+    answers: &[DataSet],
+    room: usize,
+) -> Result<usize, AllocError>
+    ensures octets { OnOk result (body.new.items
+        ≡ body.old.items ++ flat_map behind_comma (fitting room answers.now)) }
+    ensures count { IfOk result (λ count. count ≡ length (fitting room answers.now)) }
+    ensures most { IfOk result (λ count. count ≤ length answers.now) }
 {
+    let mut left = room;
+    let mut count = 0;
     for answer in answers {
+        let text = json_of(alloc, answer)?;
+        if text.len() >= left {
+            return Ok(count);
+        }
         body.push(b',')?;
-        body.extend_from_slice(json_of(alloc, answer)?.as_slice())?;
+        body.extend_from_slice(text.as_slice())?;
+        left -= text.len() + 1;
+        count += 1;
     }
-    Ok(())
+    Ok(count)
 }
 
-/// The array of the answers of a search.
-fn array_of(alloc: Global, answers: &[DataSet]) -> Result<Vec<u8>, AllocError>
-    ensures { IfOk result (λ body. body.items ≡ array_text answers.now) }
+/// Adds the array of the answers that a page shows: the first, and others that have room. Returns how
+/// many others these are.
+fn put_shown(
+    alloc: Global,
+    body: &mut Vec<u8>,
+    first: &DataSet,
+    others: &[DataSet],
+) -> Result<usize, AllocError>
+    ensures octets { OnOk result (body.new.items
+        ≡ body.old.items ++ array_text (shown_answers (first.now ∷ others.now))) }
+    ensures count { IfOk result (λ count.
+        suc count ≡ length (shown_answers (first.now ∷ others.now))) }
+    ensures most { IfOk result (λ count. count ≤ length others.now) }
 {
-    let mut body = Vec::from_slice(alloc, b"[")?;
-    if let Some((first, others)) = answers.split_first() {
-        body.extend_from_slice(json_of(alloc, first)?.as_slice())?;
-        put_others(alloc, &mut body, others)?;
-    }
+    let text = json_of(alloc, first)?;
+    let room = LONGEST_ARRAY.saturating_sub(text.len() + 2);
+    body.push(b'[')?;
+    body.extend_from_slice(text.as_slice())?;
+    let count = put_fitting(alloc, body, others, room)?;
     body.push(b']')?;
-    Ok(body)
+    Ok(count)
 }
 
-/// Whether a page has as many answers as it may have, so that there may be more.
-fn is_full(page: ShownPage, count: usize) -> bool
-    ensures { result ≡ is_full page count }
+/// Whether there may be more answers than a page shows: it shows fewer than were found, or these are
+/// as many as it may have.
+fn is_full(page: ShownPage, found: usize, shown: usize) -> bool
+    ensures { result ≡ is_full page found shown }
 {
-    count > 0 && (count >= page.limit || count >= LONGEST_PAGE)
+    shown < found || found > 0 && (found >= page.limit || found >= LONGEST_PAGE)
 }
 
 /// A response to a search.
@@ -208,6 +239,19 @@ fn search_reply(wish: Wish, status: Status, body: Vec<u8>, is_full: bool) -> Rep
     }
 }
 
+/// The response to a search that found nothing.
+fn empty_reply(alloc: Global, wish: Wish) -> Result<Reply, AllocError>
+    ensures { IfOk result (λ reply. reply ≡ empty_reply wish) }
+{
+    if wish.wants_array {
+        let body = Vec::from_slice(alloc, b"[]")?;
+        Ok(search_reply(wish, Status::Done, body, false))
+    } else {
+        let body = Vec::new(alloc);
+        Ok(search_reply(wish, Status::NoContent, body, false))
+    }
+}
+
 /// The response to a search for a page that found these answers.
 fn found_reply(
     alloc: Global,
@@ -217,12 +261,12 @@ fn found_reply(
 ) -> Result<Reply, AllocError>
     ensures { IfOk result (λ reply. reply ≡ found_reply wish page answers.now) }
 {
-    if answers.is_empty() && !wish.wants_array {
-        let body = Vec::new(alloc);
-        return Ok(search_reply(wish, Status::NoContent, body, false));
-    }
-    let body = array_of(alloc, answers)?;
-    let is_full = is_full(page, answers.len());
+    let Some((first, others)) = answers.split_first() else {
+        return empty_reply(alloc, wish);
+    };
+    let mut body = Vec::new(alloc);
+    let shown = put_shown(alloc, &mut body, first, others)?;
+    let is_full = is_full(page, answers.len(), shown + 1);
     Ok(search_reply(wish, Status::Done, body, is_full))
 }
 

@@ -3,7 +3,7 @@ use Rattle.std.proofs.Common.{◌≡◌, ℕ, zero, suc, ◌+◌, ◌-◌, ◌^�
 use Rattle.std.proofs.lemmas.Bool.Decides.{nat_tests}
 use Rattle.std.specs.List.{list_any}
 use Rattle.std.proofs.lemmas.List.Folds.{Any-from_list_any}
-use Rattle.dq_wires.specs.declared.socket_connection.SocketConnection.{SocketConnection}
+use Rattle.dq_wires.specs.declared.sockets.socket_connection.SocketConnection.{SocketConnection}
 use Rattle.dq_wires.specs.declared.sockets.SocketWires.{SocketWires}
 use Rattle.dq_wires.specs.SocketTurns.{put_off, goes_on, connection_at, slot_goes_on_before, others_go_on, is_behind}
 use Rattle.dq_wires.specs.Sockets.{would_go_on, is_put_off, is_next}

@@ -13,9 +13,9 @@ use Rattle.dq_core.specs.declared.event.Reply.{Reply}
 use Rattle.dq_core.specs.Histories.{opened_numbers}
 use Rattle.dq_core.specs.ServerView.{ServerView, Refines}
 use Rattle.dq_wires.specs.declared.calls.Call.{Call}
-use Rattle.dq_wires.specs.declared.looping.CaptureConnection.{CaptureConnection}
-use Rattle.dq_wires.specs.declared.looping.Wanted.{Wanted}
-use Rattle.dq_wires.specs.declared.looping.Wanted.TheVariants as wanted
+use Rattle.dq_wires.specs.declared.loopback.looping.CaptureConnection.{CaptureConnection}
+use Rattle.dq_wires.specs.declared.loopback.looping.Wanted.{Wanted}
+use Rattle.dq_wires.specs.declared.loopback.looping.Wanted.TheVariants as wanted
 use Rattle.dq_wires.specs.HeldConnections.{HeldConnection, connection_with}
 use Rattle.dq_wires.specs.ServerSteps.{Stepped, Moves}
 use Rattle.dq_wires.specs.Turns.{Hold, Turn, TurnsWent}

@@ -17,8 +17,8 @@ use Rattle.dq_core.specs.declared.notes.LogEvent.TheVariants.{Accepted, Closed, 
 use Rattle.dq_wires.specs.declared.given_up.GivenUp.{GivenUp}
 use Rattle.dq_wires.specs.declared.given_up.Reason.{Reason}
 use Rattle.dq_wires.specs.declared.given_up.Reason.TheVariants.{Artim, Quiet, PeerConnections}
-use Rattle.dq_wires.specs.declared.log_end.Paper.{Paper}
-use Rattle.dq_wires.specs.declared.log_end.Paper.TheVariants as paper
+use Rattle.dq_wires.specs.declared.log.log_end.Paper.{Paper}
+use Rattle.dq_wires.specs.declared.log.log_end.Paper.TheVariants as paper
 use Rattle.dq_wires.specs.declared.watched.Opened.{Opened}
 use Rattle.dq_wires.specs.declared.watched.ServedCounts.{ServedCounts}
 use Rattle.dq_wires.specs.SocketTurns.{one_more}

@@ -6,10 +6,10 @@ use Rattle.dq_core.specs.declared.event.Event.{Event}
 use Rattle.dq_core.specs.declared.event.Event.TheVariants.{Open, Piece, End, Pull, Schedule, Withdraw}
 use Rattle.dq_core.specs.Histories.{opened_numbers}
 use Rattle.dq_wires.specs.declared.calls.Call.{Call}
-use Rattle.dq_wires.specs.declared.looping.CaptureConnection.{CaptureConnection}
-use Rattle.dq_wires.specs.declared.looping.Sent.{Sent}
-use Rattle.dq_wires.specs.declared.looping.Wanted.{Wanted}
-use Rattle.dq_wires.specs.declared.looping.Wanted.TheVariants as wanted
+use Rattle.dq_wires.specs.declared.loopback.looping.CaptureConnection.{CaptureConnection}
+use Rattle.dq_wires.specs.declared.loopback.looping.Sent.{Sent}
+use Rattle.dq_wires.specs.declared.loopback.looping.Wanted.{Wanted}
+use Rattle.dq_wires.specs.declared.loopback.looping.Wanted.TheVariants as wanted
 use Rattle.dq_wires.specs.Logs.{LogsAll}
 use Rattle.dq_wires.specs.HeldConnections.{HeldConnection, connection_with}
 use Rattle.dq_wires.specs.Steps.{Runs}

@@ -3,7 +3,7 @@ use Rattle.std.specs.Prelude.{◌≡◌, ◌==◌, ℕ, Bool, List, remove, slic
 use Rattle.dq_wires.specs.declared.calls.Call.{Call}
 use Rattle.dq_wires.specs.declared.calls.ReadOutcome.{ReadOutcome}
 use Rattle.dq_wires.specs.declared.calls.ReadOutcome.TheVariants as came
-use Rattle.dq_wires.specs.declared.memory.MemoryWires.{MemoryWires}
+use Rattle.dq_wires.specs.declared.loopback.memory.MemoryWires.{MemoryWires}
 
 -- the calls so far
 abbrev pub calls_so_far : MemoryWires → Option (List Call)

@@ -19,10 +19,10 @@ use Rattle.dq_wires.specs.declared.given_up.GivenUp.{GivenUp}
 use Rattle.dq_wires.specs.declared.given_up.Limits.{Limits}
 use Rattle.dq_wires.specs.declared.given_up.Reason.{Reason}
 use Rattle.dq_wires.specs.declared.given_up.Reason.TheVariants.{Artim, Quiet, PeerConnections}
-use Rattle.dq_wires.specs.declared.socket.Socket.{Socket}
-use Rattle.dq_wires.specs.declared.socket_connection.SocketConnection.{SocketConnection}
-use Rattle.dq_wires.specs.declared.socket_connection.Stage.{Stage}
-use Rattle.dq_wires.specs.declared.socket_connection.Stage.TheVariants as stage
+use Rattle.dq_wires.specs.declared.sockets.socket.Socket.{Socket}
+use Rattle.dq_wires.specs.declared.sockets.socket_connection.SocketConnection.{SocketConnection}
+use Rattle.dq_wires.specs.declared.sockets.socket_connection.Stage.{Stage}
+use Rattle.dq_wires.specs.declared.sockets.socket_connection.Stage.TheVariants as stage
 use Rattle.dq_wires.specs.Times.{no_time}
 use Rattle.dq_wires.specs.SocketTurns.{heard_from, wrote}
 

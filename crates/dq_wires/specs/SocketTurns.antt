@@ -5,7 +5,7 @@ use Rattle.std.specs.Str.{bytes_eq}
 use Rattle.dq_value.specs.Title.{without_spaces}
 use Rattle.dq_core.specs.declared.notes.Titles.{Titles}
 use Rattle.dq_wires.specs.Times.{no_time}
-use Rattle.dq_wires.specs.declared.socket_connection.SocketConnection.{SocketConnection}
+use Rattle.dq_wires.specs.declared.sockets.socket_connection.SocketConnection.{SocketConnection}
 
 -- One more, as far as a `u64` counts.
 abbrev pub one_more : ℕ → ℕ

@@ -1,7 +1,6 @@
 -- Wires over sockets: what is held, and what changes in a turn.
 use Rattle.std.specs.Prelude.{◌≡◌, ◌-◌, nat_lt, true, ◌&&◌, ◌||◌, ℕ, Bool, false, not, is_some, if◌then◌else◌, map, replicate, Option, Some, None, option_map, Result, Ok}
 use Rattle.std.specs.Option.{option_and_then}
-use Rattle.std.specs.Option.{option_and_then}
 use Rattle.std.specs.Time.{instant_nanos}
 use Rattle.std.specs.declared.time.Instant.{Instant}
 use Rattle.std.specs.declared.net.socket_addr.SocketAddr.{SocketAddr}
@@ -9,9 +8,9 @@ use Rattle.dq_wires.specs.declared.calls.ReadTurn.{ReadTurn}
 use Rattle.dq_wires.specs.declared.calls.ReadTurn.TheVariants.{Nothing}
 use Rattle.dq_wires.specs.declared.calls.WireFault.{WireFault}
 use Rattle.dq_wires.specs.declared.given_up.GivenUp.{GivenUp}
-use Rattle.dq_wires.specs.declared.socket.Door.{Door}
-use Rattle.dq_wires.specs.declared.socket.Door.TheVariants as door
-use Rattle.dq_wires.specs.declared.socket_connection.SocketConnection.{SocketConnection}
+use Rattle.dq_wires.specs.declared.sockets.socket.Door.{Door}
+use Rattle.dq_wires.specs.declared.sockets.socket.Door.TheVariants as door
+use Rattle.dq_wires.specs.declared.sockets.socket_connection.SocketConnection.{SocketConnection}
 use Rattle.dq_wires.specs.declared.sockets.SocketWires.{SocketWires}
 use Rattle.dq_wires.specs.Limits.{most_wires}
 use Rattle.dq_wires.specs.SocketLimits.{end_of}

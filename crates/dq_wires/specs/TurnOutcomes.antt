@@ -5,7 +5,7 @@ use Rattle.dq_core.specs.declared.event.Event.{Event}
 use Rattle.dq_core.specs.declared.fault.Fault.{Fault}
 use Rattle.dq_wires.specs.declared.calls.Call.{Call}
 use Rattle.dq_wires.specs.declared.fault.TurnFault.{TurnFault}
-use Rattle.dq_wires.specs.declared.connection_set.ConnectionSet.{ConnectionSet}
+use Rattle.dq_wires.specs.declared.turns.connection_set.ConnectionSet.{ConnectionSet}
 use Rattle.dq_wires.specs.Logs.{LogsAll}
 use Rattle.dq_wires.specs.HeldConnections.{HeldConnection}
 use Rattle.dq_wires.specs.Steps.{Step, Runs, StopsBy}

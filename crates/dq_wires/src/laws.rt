@@ -19,7 +19,7 @@ ghost use Rattle.dq_core.specs.ServerView.{ServerView, Refines};
 ghost use Rattle.dq_core.specs.Looking.{Looked};
 ghost use Rattle.dq_wires.specs.declared.calls.Call.{Call};
 ghost use Rattle.dq_wires.specs.declared.fault.TurnFault.{TurnFault};
-ghost use Rattle.dq_wires.specs.declared.socket_connection.SocketConnection.{SocketConnection};
+ghost use Rattle.dq_wires.specs.declared.sockets.socket_connection.SocketConnection.{SocketConnection};
 ghost use Rattle.dq_wires.specs.declared.sockets.SocketWires.{SocketWires};
 ghost use Rattle.dq_wires.specs.SocketTurns.{goes_on, connection_at, slot_goes_on_before, put_off};
 ghost use Rattle.dq_wires.specs.Sockets.{is_next, is_put_off};

@@ -5,12 +5,15 @@ ghost use Rattle.dq_wires.specs.SocketLimits.{crowded_end};
 ghost use Rattle.dq_wires.specs.SocketTurns.{is_preceded, is_behind};
 ghost use Rattle.dq_wires.specs.Sockets.{IsIdle, BeginsTurn, IsOffered, IsShared, is_recent, is_tcp, is_put_off, TakesTurn};
 
+mod slots;
+mod socket;
+mod socket_connection;
+
 use crate::calls::{Progress, ReadTurn, WireFault};
 use crate::given_up::{GivenUp, GivesUp, Limits, Reason};
 use crate::limits::MOST_WIRES;
-use crate::slots;
-use crate::socket::{Door, Socket};
-use crate::socket_connection::SocketConnection;
+use crate::sockets::socket::{Door, Socket};
+use crate::sockets::socket_connection::SocketConnection;
 use crate::wires::Wires;
 use mio::unix::SourceFd;
 use mio::{Events, Interest, Poll, Token};

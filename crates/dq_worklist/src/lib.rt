@@ -10,5 +10,5 @@ mod refusal;
 mod worklist_query;
 
 pub use entry_orders::{schedule, withdraw};
-pub use query_answers::{query, query_by_keys};
+pub use query_answers::{query, query_by_keys, query_with_identifier};
 pub use refusal::Refusal;

@@ -2,7 +2,9 @@
 ghost use Rattle.std.specs.Prelude.{◌≡◌, false, List, [], map, IfOk};
 ghost use Rattle.std.specs.Option.{option_copied, option_to_list};
 ghost use Rattle.std.specs.List.{filter_map};
+ghost use Rattle.std.specs.Result.{result_ok};
 ghost use Rattle.dq_dimse.specs.Holding.{plain_message};
+ghost use Rattle.dq_dimse.specs.Receiving.{identifier_in};
 ghost use Rattle.dq_match.specs.Answers.{found_part};
 ghost use Rattle.dq_match.specs.Parts.{part_of, found_of};
 ghost use Rattle.dq_match.specs.Identifiers.{HasKnownTags};
@@ -137,7 +139,7 @@ fn answers_of(
 /// of the octets of their key, each with what the keys ask for. It is refused with status A700 where
 /// the identifier is too long, C000 where it is unreadable, and A900 where it has values that are
 /// not well formed (PS3.4 section K.4.1.1.4).
-#[tactic(auto, using(dq_tables::proofs::TableCalls::serves_read), unfolding(crate::specs::Queries::worklist_outcome))]
+#[tactic(auto, using(dq_tables::proofs::TableCalls::serves_read))]
 pub fn query<T: Tables>(
     tables: &mut T,
     institution: &Institution,
@@ -147,10 +149,29 @@ pub fn query<T: Tables>(
     ensures { Serves (T.state tables.old) (T.state tables.new) institution.now.name
         (λ (records : List Record). (worklist_outcome records (plain_message message.now) syntax, [])) result }
 {
-    let mut archive = Archive::new(tables, institution);
-    let asked = query_of(archive.alloc, message, syntax)?;
-    let found = answers_to(&mut archive, asked, 0, None)?;
+    let (found, _) = query_with_identifier(tables, institution, message, syntax)?;
     Ok(found)
+}
+
+/// Answers a worklist C-FIND as `query` does. Gives back the identifier too, if it can be read.
+#[tactic(auto, unfolding(crate::specs::Queries::worklist_outcome, crate::specs::Queries::worklist_query))]
+pub fn query_with_identifier<T: Tables>(
+    tables: &mut T,
+    institution: &Institution,
+    message: &Message,
+    syntax: Syntax,
+) -> Result<(Found, Option<DataSet>), TableFault>
+    ensures found { (T.state tables.new).honest → IfOk result (λ given. given.0 ≡ worklist_outcome
+        (of institution.now.name (T.state tables.old).rows) (plain_message message.now) syntax) }
+    ensures identifier { IfOk result (λ given.
+        given.1 ≡ result_ok (identifier_in (plain_message message.now) syntax)) }
+    ensures reads { Reads (T.state tables.old) (T.state tables.new) result }
+{
+    let mut archive = Archive::new(tables, institution);
+    let identifier = message.identifier(archive.alloc, syntax)?;
+    let asked = query_of(archive.alloc, &identifier)?;
+    let found = answers_to(&mut archive, asked, 0, None)?;
+    Ok((found, identifier.ok()))
 }
 
 /// Answers keys that no message brought, as `query` answers the identifier of a message: the answers

@@ -1,11 +1,9 @@
-//! The query in a message (PS3.4 section K.4.1.2).
+//! The query of an identifier (PS3.4 section K.4.1.2).
 ghost use Rattle.std.specs.Prelude.{◌≡◌, IfOk};
-ghost use Rattle.dq_dimse.specs.Holding.{plain_message};
 ghost use Rattle.dq_match.specs.Identifiers.{HasKnownTags};
-ghost use Rattle.dq_worklist.specs.Queries.{keys_query, worklist_query};
+ghost use Rattle.dq_worklist.specs.Queries.{keys_query, worklist_identifier_query};
 
-use dq_dataset::{DataSet, Syntax};
-use dq_dimse::Message;
+use dq_dataset::DataSet;
 use dq_dimse::status::DOES_NOT_MATCH_SOP_CLASS;
 use dq_match::{KeyList, is_query, strike};
 use std::alloc::{AllocError, Global};
@@ -17,20 +15,18 @@ pub(crate) struct Query {
     pub(crate) optional: bool,
 }
 
-/// The query of a message, or the status that refuses it: the identifier is too long, unreadable,
-/// or has a value that is not well formed.
-#[tactic(auto, unfolding(crate::specs::Queries::worklist_query))]
+/// The query of the identifier of a message, or the status that refuses it: the identifier is too
+/// long, unreadable, or has a value that is not well formed.
 pub(crate) fn query_of(
     alloc: Global,
-    message: &Message,
-    syntax: Syntax,
+    identifier: &Result<DataSet, u16>,
 ) -> Result<Result<Query, u16>, AllocError>
-    ensures query { IfOk result (λ q. q ≡ worklist_query (plain_message message.now) syntax) }
+    ensures query { IfOk result (λ q. q ≡ worklist_identifier_query identifier.now) }
     ensures known { IfOk result (λ q. IfOk q (λ query. HasKnownTags query.keys)) }
 {
-    match message.identifier(alloc, syntax)? {
-        Ok(identifier) => query_at(alloc, &identifier),
-        Err(status) => Ok(Err(status)),
+    match identifier {
+        Ok(identifier) => query_at(alloc, identifier),
+        Err(status) => Ok(Err(*status)),
     }
 }
 

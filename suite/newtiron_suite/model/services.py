@@ -20,6 +20,8 @@ STUDY, SERIES, IMAGE = (0x0020, 0x000D), (0x0020, 0x000E), (0x0008, 0x0018)
 LEVEL, MODALITY, MODALITIES = (0x0008, 0x0052), (0x0008, 0x0060), (0x0008, 0x0061)
 STATE, SCHEDULED_STEP, STEP_ID = (0x0040, 0x0252), (0x0040, 0x0100), (0x0040, 0x0009)
 STEP_ATTRIBUTES = (0x0040, 0x0270)
+# The unique keys above a level: an identifier has one value of each (PS3.4 section C.4.1.2.1).
+ABOVE: dict[str, list[Tag]] = {"STUDY": [], "SERIES": [STUDY], "IMAGE": [STUDY, SERIES]}
 FIXED = [MODALITY, (0x0040, 0x0241), (0x0040, 0x0244), (0x0040, 0x0245), (0x0040, 0x0253),
          (0x0040, 0x0270)]
 
@@ -151,14 +153,13 @@ def level_of(identifier: list[Element]) -> str:
     return level.decode()
 
 
-def find(records: Records, called: bytes, octets: bytes,
-         syntax: bytes) -> tuple[int, list[list[Element]], int]:
+def find(records: Records, called: bytes, octets: bytes, syntax: bytes,
+         above: dict[str, list[Tag]] = ABOVE) -> tuple[int, list[list[Element]], int]:
     """Study Root C-FIND (PS3.4 section C.4.1): the pending status, the answers, and the last
     status."""
     try:
         identifier = read(octets, syntax, OUT_OF_RESOURCES, NOT_UNDERSTOOD)
         level = level_of(identifier)
-        above: dict[str, list[Tag]] = {"STUDY": [], "SERIES": [STUDY], "IMAGE": [STUDY, SERIES]}
         unique = [only_uid(identifier, tag) for tag in above[level]]
         if None in unique:
             raise Refused(MISMATCH)
@@ -174,6 +175,14 @@ def find(records: Records, called: bytes, octets: bytes,
         if matching.fits(keys, held):
             answers.append(found_answer(matching.shown(keys, held), level, called))
     return PENDING_OPTIONAL if struck else PENDING, answers, SUCCESS
+
+
+def find_in_study(records: Records, octets: bytes,
+                  syntax: bytes) -> tuple[int, list[list[Element]], int]:
+    """The images of all series of a study, one series after the other (PS3.18 section 10.6.1)."""
+    pending, answers, status = find(records, b"", octets, syntax, {"IMAGE": [STUDY]})
+    answers.sort(key=lambda answer: [only_uid(answer, tag) for tag in (SERIES, IMAGE)])
+    return pending, answers, status
 
 
 def found_answer(answer: list[Element], level: str, called: bytes) -> list[Element]:

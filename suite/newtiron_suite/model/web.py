@@ -4,6 +4,7 @@ takes the parts of one.
 """
 import contextlib
 import dataclasses
+import itertools
 import json
 import re
 import urllib.parse
@@ -16,9 +17,11 @@ from .replies import Institution
 from .services import Records
 from .upper_layer import EXPLICIT
 
-# The levels of a Study Root search (PS3.4 section C.6.2), and how many answers a page has.
-LEVELS = {"studies": b"STUDY", "series": b"SERIES", "images": b"IMAGE"}
+# The levels of a Study Root search (PS3.4 section C.6.2); how many answers a page has, and how many
+# octets its array, unless its first answer alone is longer.
+LEVELS = {"studies": b"STUDY", "series": b"SERIES", "images": b"IMAGE", "study images": b"IMAGE"}
 USUAL_PAGE, LONGEST_PAGE, LONGEST_VALUE = 100, 1000, 65534
+LONGEST_ARRAY = 8 * 1024 * 1024
 CHARACTER_SET, LEVEL, STEPS = (0x0008, 0x0005), (0x0008, 0x0052), (0x0040, 0x0100)
 LEFT_OUT = ("includefield=", "fuzzymatching=")
 # Text of these is in the record's character set, and there may be several values (PS3.5 sections
@@ -30,6 +33,7 @@ UID = r"([^/]+)"
 PATHS = [
     ("rs/studies", {"GET": "studies"}), (f"rs/studies/{UID}/series", {"GET": "series"}),
     (f"rs/studies/{UID}/series/{UID}/instances", {"GET": "images"}),
+    (f"rs/studies/{UID}/instances", {"GET": "study images"}),
     ("rs/(?:series|instances)", {"GET": "relational"}),
     ("worklist", {"GET": "worklist", "POST": "schedule"}),
     ("worklist/(.*)", {"DELETE": "withdraw"}),
@@ -45,7 +49,7 @@ LITERAL = ('299 newtiron "The fuzzymatching parameter is not supported. Only lit
            'been performed."')
 # The same where a parameter is unknown, which is passed over.
 IGNORED = '299 newtiron "An unknown parameter was ignored."'
-# The same where a page has as many answers as it may have.
+# The same where a page has as many answers as it may have, or there was no room for the next.
 FULL = '299 newtiron "The page is full. Additional results can be requested by offset."'
 # The media types under which an entry is sent as a data set: its own, that of any octets, and the
 # one that senders give what they know no type of.
@@ -170,13 +174,28 @@ def searched(records: Records, subject: str, text: str,
     else:
         asked = services.written(identifier(keys, LEVELS.get(subject, b""), subject == "worklist"),
                                  EXPLICIT)
-        _, found, status = services.query(records, asked, EXPLICIT) if subject == "worklist" else \
-            services.find(records, b"", asked, EXPLICIT)
+        if subject == "worklist":
+            _, found, status = services.query(records, asked, EXPLICIT)
+        elif subject == "study images":
+            _, found, status = services.find_in_study(records, asked, EXPLICIT)
+        else:
+            _, found, status = services.find(records, b"", asked, EXPLICIT)
     return found[page["offset"]:][:min(page["limit"], LONGEST_PAGE)], status
 
 
 def json_of(data_set: list[Element]) -> str:
     return json.dumps(json_objects.objects(data_set), ensure_ascii=False, separators=(",", ":"))
+
+
+def array_of(texts: list[bytes]) -> bytes:
+    """An array of answers, each as JSON (PS3.18 section F.2.1)."""
+    return b"[" + b",".join(texts) + b"]"
+
+
+def shown_of(texts: list[bytes]) -> list[bytes]:
+    """The longest front of the answers whose array is not too long, but at least one."""
+    ends = itertools.accumulate((len(text) + 1 for text in texts), initial=1)
+    return texts[:max(1, sum(end <= LONGEST_ARRAY for end in ends) - 1)]
 
 
 def answered(records: Records, subject: str, text: str,
@@ -191,8 +210,9 @@ def answered(records: Records, subject: str, text: str,
     if not found:
         return Answer(204)
     limit = words_of(text, subject != "steps")[1]["limit"]
-    return Answer(200, DICOM_JSON, f"[{','.join(map(json_of, found))}]".encode(),
-                  {"Warning": FULL} if len(found) == min(limit, LONGEST_PAGE) else {})
+    shown = shown_of([json_of(one).encode() for one in found])
+    is_full = len(shown) < len(found) or len(found) == min(limit, LONGEST_PAGE)
+    return Answer(200, DICOM_JSON, array_of(shown), {"Warning": FULL} if is_full else {})
 
 
 def counted(institution: Institution) -> dict[str, dict[str, int]]:
@@ -244,7 +264,8 @@ def kind_of(target: str) -> str:
     match = next((methods for pattern, methods in PATHS if below[0] != "*" and below[1]
                   and re.fullmatch(pattern, below[2], re.S)), {})
     kind = next(iter(match.values()), "none")
-    return {"images": "instances", "withdraw": "worklist", "relational": "none"}.get(kind, kind)
+    return {"images": "instances", "study images": "instances", "withdraw": "worklist",
+            "relational": "none"}.get(kind, kind)
 
 
 def ranges_in(fields: Any, name: str = "accept") -> Any:

@@ -31,7 +31,10 @@
                 SIGKILL ends at random
     searches    what the console shows of two hospitals with the same UIDs: studies, series, images,
                 entries and steps, page by page, and its refusals
-    file        the console's socket file: its rights, one that was left behind, one that is in use
+    memory      each allocation refused in turn while the console answers a search, a report and an
+                order: its client is let go, and others are served
+    file        the rights of the files that the server makes; the console's socket file: one that
+                was left behind, one that is in use
     callers     the ninth caller of the console waits, and one who says nothing for a minute is let
                 go (65 s)
     browser     a POST, by curl and by Chromium where they are installed, changes nothing
@@ -58,6 +61,7 @@ from .exits import exits, listen
 from .limits import artim, peers, quiet
 from .loads import deaf, half, idle, long, many, pages, resets, shares, unread
 from .log import log
+from .memory import memory
 from .stops import repeats, stops
 from .tools import tools
 
@@ -65,9 +69,9 @@ PARTS: dict[str, Part] = {
     "captures": captures, "histories": two_hospitals, "pages": pages, "many": many,
     "shares": shares, "unread": unread, "deaf": deaf, "resets": resets, "half": half, "long": long,
     "stops": stops, "repeats": repeats, "idle": idle, "exits": exits, "listen": listen,
-    "loopback": loopback, "console": console, "backup": backup, "searches": searches, "file": file,
-    "callers": callers, "browser": browser, "artim": artim, "peers": peers, "quiet": quiet,
-    "log": log, "tools": tools,
+    "loopback": loopback, "console": console, "backup": backup, "searches": searches,
+    "memory": memory, "file": file, "callers": callers, "browser": browser, "artim": artim,
+    "peers": peers, "quiet": quiet, "log": log, "tools": tools,
 }
 
 

@@ -154,6 +154,7 @@ def searches(tally: Tally, _: object) -> None:
                 ("series NORTH StudyInstanceUID=1.2.1", SERIES_UID, ["1.2.1.1"]),
                 ("images NORTH StudyInstanceUID=1.2.1 SeriesInstanceUID=1.2.1.1", IMAGE_UID,
                  ["1.2.1.1.1"]),
+                ("study-images NORTH StudyInstanceUID=1.2.1", IMAGE_UID, ["1.2.1.1.1"]),
                 ("steps NORTH", STEP_UID, [None]), ("steps SOUTH offset=1", STEP_UID, [])):
             found, end = shown(desk, line)
             tally.check(line, end == f"end {len(wanted)}" and [value_in(one, tag) for one in found]
@@ -171,6 +172,7 @@ def searches(tally: Tally, _: object) -> None:
         for line, answer in (("studies EAST", "refused 6"), ("steps EAST", "refused 6"),
                              ("series NORTH", "refused A900"),
                              ("images NORTH StudyInstanceUID=1.2.1", "refused A900"),
+                             ("study-images NORTH", "refused A900"),
                              ("studies NORTH Patient=P1", "refused keyword Patient=P1"),
                              ("studies NORTH limit=x", "refused keyword limit=x"),
                              ("studies NORTH P1", "refused keyword P1"),
@@ -228,7 +230,28 @@ def long_lines(tally: Tally, server: Serving) -> None:
         tally.check("a line without an end", last == b"bad line\n", last)
 
 
+def rights(tally: Tally, folder: pathlib.Path) -> None:
+    """Files that the server makes are its owner's alone, whatever the umask; others keep theirs."""
+    store, log, copy = folder / "rights.db", folder / "rights.log", folder / "rights_copy.db"
+    journal, was_there = pathlib.Path(f"{store}-wal"), folder / "shared.log"
+    with Serving(PROGRAM, "--new", store, "--log-file", log, has_console=True, umask=0) as server:
+        with server.console() as desk:
+            told = desk.ask(f"backup {copy}")
+        tally.check("a backup without a umask", told == "done", told)
+        for path in (store, journal, log, copy):
+            mode = stat.S_IMODE(path.stat().st_mode)
+            tally.check(f"{path.name} is its owner's alone", mode == 0o600, oct(mode))
+    was_there.touch()
+    for path in (store, journal, was_there):
+        path.chmod(0o640)
+    with Serving(PROGRAM, "--store", store, "--log-file", was_there, umask=0):
+        for path in (store, journal, was_there):
+            mode = stat.S_IMODE(path.stat().st_mode)
+            tally.check(f"{path.name} keeps its rights", mode == 0o640, oct(mode))
+
+
 def file(tally: Tally, folder: pathlib.Path) -> None:
+    rights(tally, folder)
     path = folder / "console"
     with Serving(PROGRAM, "--console", path, umask=0) as server:
         mode = path.lstat().st_mode

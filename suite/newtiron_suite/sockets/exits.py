@@ -1,6 +1,7 @@
 """Exit statuses, and addresses that are listened at."""
 import errno
 import pathlib
+import signal
 import subprocess
 import time
 from typing import Any
@@ -67,6 +68,12 @@ def exits(tally: Tally, folder: pathlib.Path) -> None:
     done = run("serve", "--port", port, "--console", folder / "console", "--turns", 2)
     tally.check("turns with a console", done == (0, b"ready %d\n" % port, b""), done)
     failed_accepts(tally, folder)
+    # (a process whose parent ignores a signal, as under nohup, ignores it too)
+    for number in (signal.SIGTERM, signal.SIGINT, signal.SIGHUP):
+        if signal.getsignal(number) is not signal.SIG_IGN:
+            with Serving(PROGRAM) as server:
+                status = server.end(number)
+                tally.check(f"{number.name} ends it", status == -number, status)
 
 
 def failed_accepts(tally: Tally, folder: pathlib.Path) -> None:

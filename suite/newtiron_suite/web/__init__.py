@@ -10,7 +10,7 @@
     searches    studies, series, images, entries and steps, page by page, with keys and with words
                 that are none; forms that are accepted, and the warning of fuzzy matching
     entries     what is sent to the worklist is found by DICOM and by HTTP, and withdrawn; each
-                refusal of both
+                refusal of both; pages that end at 8 MiB
     looks       nothing that is looked at changes anything
     methods     other methods, HEAD, paths that are none, and those that go up
     hosts       names of the host, targets in absolute-form, origins and sites that are refused,

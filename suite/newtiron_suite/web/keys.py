@@ -67,7 +67,8 @@ def keys(tally: Tally, folder: pathlib.Path) -> None:
             tally.check(f"the operator has no {target}", pair.ask("GET", target, "*").status == 404)
         for target in ("/NORTH/worklist", "/NORTH/counts", "/NORTH/steps",
                        "/NORTH/rs/studies/1.2/series",
-                       "/NORTH/rs/studies/1.2/series/1.3/instances"):
+                       "/NORTH/rs/studies/1.2/series/1.3/instances",
+                       "/NORTH/rs/studies/1.2/instances"):
             pair.compare(tally, "without a key", "GET", target)
             pair.compare(tally, "with another key", "GET", target, "SOUTH")
         pair.compare(tally, "an order without a key", "POST", "/NORTH/worklist",

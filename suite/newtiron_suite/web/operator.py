@@ -133,6 +133,7 @@ COUNTED = [
     ("GET", "/NORTH/rs/studies", "SOUTH", "studies", 401),
     ("GET", "/NORTH/rs/studies/1.2.0/series", "NORTH", "series", 200),
     ("GET", "/NORTH/rs/studies/1.2.0/series/1.2.0.1/instances", "NORTH", "instances", 200),
+    ("GET", "/NORTH/rs/studies/1.2.0/instances", "NORTH", "instances", 200),
     ("GET", "/NORTH/rs/series", "NORTH", "none", 501),
     ("GET", "/NORTH/worklist", "NORTH", "worklist", 200),
     ("POST", "/NORTH/worklist", "NORTH", "worklist", 400),

@@ -203,6 +203,8 @@ def nginx(tally: Tally, folder: pathlib.Path) -> None:
                     ("GET", "/NORTH/rs/studies", "SOUTH", None, 401),
                     ("POST", "/NORTH/worklist", "NORTH", entry_octets("N1"),
                      201),
+                    # (nginx takes it for a path of SOUTH, and passes it on as it is)
+                    ("GET", "/NORTH/..%2FSOUTH/counts", "SOUTH", None, 400),
                     ("GET", "/metrics", "*", None, (403, 404)),
                     ("POST", "/backup", "*", b"/x", (403, 404))):
                 told = ask(method, path, name, body)

@@ -21,8 +21,8 @@ from .page_items import (
     changes, changes_that_are_lost, changes_that_fail, clicks_while_sending, copies, new_items,
     refused_forms, unreadable_items, withdrawals)
 from .page_lists import (
-    long_lists, order_of_worklist, phone, rows_of_worklist, searches_of_worklist, sizes, steps_list,
-    studies_list, targets)
+    large_lists, long_lists, order_of_worklist, phone, rows_of_worklist, searches_of_worklist,
+    sizes, steps_list, studies_list, targets)
 
 PICTURE = TOP / "docs" / "page.png"
 FOCUSED = "document.activeElement.outerHTML"
@@ -98,6 +98,7 @@ def lists(tally: Tally, folder: pathlib.Path) -> None:
         play_each(tally, pair, page_of, rows_of_worklist, order_of_worklist, searches_of_worklist,
                   steps_list, studies_list)
         long_lists(tally, folder, page_of)
+        large_lists(tally, folder, page_of)
 
 
 def items(tally: Tally, folder: pathlib.Path) -> None:

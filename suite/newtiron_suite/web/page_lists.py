@@ -6,6 +6,7 @@ import re
 from ..browser import Browser
 from ..tally import Tally
 from .common import Pair, entry_octets, store_line
+from .entries import large_entry
 from .page_help import (
     CAPTION, CELLS, HEADS, MARKUP, ROWS, STATE, STEP_IDS, TODAY, click, item_at, open_page,
     open_worklist, search_for)
@@ -181,6 +182,9 @@ def long_lists(tally: Tally, folder: pathlib.Path, page_of: Browser) -> None:
         click(page_of, "#next")
         tally.check("and the next", page_of.until(f"{STEP_IDS} === 'S3'") and
                     page_of.run(told) == "101 to 101 of 101", page_of.run(told))
+        click(page_of, "#back")
+        tally.check("and back", page_of.until(f"{ROWS} === 100") and
+                    page_of.run(told) == "1 to 100 of 101", page_of.run(told))
         click(page_of, "#studies")
         tally.check("studies without a date are of no day", page_of.until(
             f"{CAPTION}.startsWith('Studies')") and page_of.run(ROWS) == 0, page_of.run(ROWS))
@@ -188,7 +192,23 @@ def long_lists(tally: Tally, folder: pathlib.Path, page_of: Browser) -> None:
         tally.check("a page of all studies", page_of.until(f"{ROWS} === 100") and
                     page_of.run(told) == "1 to 100", page_of.run(told))
         click(page_of, "#next")
-        tally.check("and the rest", page_of.until(f"{ROWS} === 1"), page_of.run(told))
+        tally.check("and the rest", page_of.until(f"{ROWS} === 1") and
+                    page_of.run(told) == "101 to 101", page_of.run(told))
+        click(page_of, "#back")
+        tally.check("and back to the first", page_of.until(f"{ROWS} === 100") and
+                    page_of.run("document.getElementById('back').disabled"), page_of.run(told))
+
+
+def large_lists(tally: Tally, folder: pathlib.Path, page_of: Browser) -> None:
+    """A list is whole of which one response, of 8 MiB, has a part."""
+    told = "document.getElementById('range').textContent"
+    with Pair(folder) as pair:
+        for at in range(12):
+            pair.ask("POST", "/NORTH/worklist", "NORTH", body=large_entry(f"L{at:02}"),
+                     fields=["Content-Type: application/dicom+json"])
+        open_page(page_of, pair, "NORTH")
+        tally.check("twelve items of 1 MB", page_of.until(f"{ROWS} === 12") and
+                    page_of.run(told) == "1 to 12 of 12", page_of.run(told))
 
 
 def sizes(tally: Tally, pair: Pair, page_of: Browser) -> None:

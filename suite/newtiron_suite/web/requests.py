@@ -14,6 +14,7 @@ from .common import BODY_MOST, SEED, Pair, entry_octets, spoken
 def methods(tally: Tally, folder: pathlib.Path) -> None:
     with Pair(folder) as pair:
         for target in ("rs/studies", "rs/studies/1.2/series", "rs/studies/1.2/series/1.3/instances",
+                       "rs/studies/1.2/instances",
                        "worklist", "worklist/S1",
                        "steps", "counts"):
             for method in ("GET", "HEAD", "POST", "PUT", "DELETE", "PATCH", "OPTIONS", "get",
@@ -33,7 +34,9 @@ def methods(tally: Tally, folder: pathlib.Path) -> None:
                        "/NORTH//rs/studies", "/NORTH/rs",
                        "/NORTH/rs/studies/", "/NORTH/rs/studies/1.2",
                        "/NORTH/rs/studies/1.2/series/", "/NORTH/rs/studies/1.2/series/1.3",
-                       "/NORTH/rs/studies/1.2/series/1.3/instances/", "/NORTH/counts/",
+                       "/NORTH/rs/studies/1.2/series/1.3/instances/",
+                       "/NORTH/rs/studies/1.2/instances/", "/NORTH/rs/studies/instances",
+                       "/NORTH/rs/studies/1.2/1.3/instances", "/NORTH/counts/",
                        "/NORTH/steps/1", "/NORTH/%77orklist", "/health/", "/Health", "/favicon.ico",
                        "/metrics/x", "/NORTH/metrics", "*"):
             pair.compare(tally, "a path that is none", "GET", target, "NORTH")
@@ -197,11 +200,13 @@ def last_ones(tally: Tally, pair: Pair, host: bytes) -> None:
             found = [(one.status, is_last(one)) for one in told]
             tally.check(f"the last response: {what}: {path}",
                         found == [(status, end) for end in wanted], found)
-            if is_end:
+            for method in (b"GET", b"HEAD") if is_end else ():
                 with pair.connect() as speaker:
-                    speaker.send(head)
-                    speaker.response()
-                    tally.check(f"it is closed at once: {what}: {path}", speaker.is_closed())
+                    speaker.send(head.replace(b"GET", method))
+                    last = speaker.response(is_head=method == b"HEAD")
+                    tally.check(f"it is closed at once: {what}: {method.decode()} {path}",
+                                last.status == status and is_last(last) and speaker.is_closed(),
+                                last.head)
     heads = [b"GET " + path + b" HTTP/1.1\r\nHost: " + host + b"\r\n\r\n"
              for path in (b"/nowhere", b"/health")]
     told = spoken(pair, b"".join(heads))

@@ -81,7 +81,18 @@ SEARCHES = [
     "rs/studies/1.2.0/series?StudyInstanceUID=1.2.1", "rs/studies/1.2.0/series/1.2.0.1/instances",
     "rs/studies/1.2.0/series/1.2.0.1/instances?InstanceNumber=2",
     "rs/studies/1.2.0/series/1.2.1.1/instances",
-    "rs/studies/1.2.0/series/1.2.0.1/instances?limit=1", "rs/series", "rs/instances",
+    "rs/studies/1.2.0/series/1.2.0.1/instances?limit=1",
+    "rs/studies/1.2.0/instances", "rs/studies/1.2.0/instances?limit=1&offset=1",
+    "rs/studies/1.2.0/instances?offset=2", "rs/studies/1.2.0/instances?InstanceNumber=2",
+    "rs/studies/1.2.0/instances?SeriesInstanceUID=1.2.0.2",
+    "rs/studies/1.2.0/instances?SeriesInstanceUID=1.2.0.2,1.2.0.1",
+    "rs/studies/1.2.0/instances?SeriesInstanceUID=1.2.1.1",
+    "rs/studies/1.2.0/instances?SeriesInstanceUID=",
+    "rs/studies/1.2.0/instances?StudyInstanceUID=1.2.1", "rs/studies/1.2.0/instances?x=1",
+    "rs/studies/1.2.0/instances?limit=x", "rs/studies/1.2.0/instances?ContentDate=x",
+    "rs/studies/1.2.0/instances?offset=18446744073709551615", "rs/studies/1.2.99/instances",
+    "rs/studies/nothing/instances", "rs/studies/1.2.0,1.2.1/instances",
+    "rs/series", "rs/instances",
     "rs/series?Modality=CT",
     # the worklist and steps
     "worklist", "worklist?Modality=CT", "worklist?Modality=MR", "worklist?limit=1",
@@ -131,6 +142,7 @@ def searches(tally: Tally, folder: pathlib.Path) -> None:
                     for target in SEARCHES[:9]]
             tally.check("many on one connection", each == [200] * 7 + [204, 200], each)
         forms(tally, pair)
+        study_images(tally, pair)
         long_page(tally, pair)
         pair.is_right(tally, "searches")
     names(tally, folder)
@@ -172,7 +184,46 @@ def forms(tally: Tally, pair: Pair) -> None:
                     ("fuzzymatching" in told.fields.get("warning", "")) == is_warned, told.fields)
 
 
-def long_page(tally: Tally, pair: Pair, count: int = 97) -> None:
+# The images of a study by their series. In the order of their own UIDs those of the second series
+# come first.
+IN_STUDY = {"1.5.1": ["1.5.9.1", "1.5.9.2", "1.5.9.3"], "1.5.2": ["1.5.3.1", "1.5.3.2"]}
+EACH = [image for images in IN_STUDY.values() for image in images]
+# What the queries of a search for the images of that study find.
+FOUND_IN_STUDY: dict[str, list[str]] = {
+    "": EACH, "limit=3": EACH[:3], "limit=4": EACH[:4], "limit=2&offset=2": EACH[2:4],
+    "offset=3": EACH[3:], "offset=4": EACH[4:], "limit=1&offset=3": EACH[3:4], "offset=5": [],
+    "limit=0": [], "InstanceNumber=2": ["1.5.9.2", "1.5.3.2"],
+    "InstanceNumber=2&offset=1": ["1.5.3.2"], "SOPInstanceUID=1.5.3.2,1.5.9.1":
+    ["1.5.9.1", "1.5.3.2"], "SeriesInstanceUID=1.5.2": EACH[3:],
+    "SeriesInstanceUID=1.5.2,1.5.1": EACH, "SeriesInstanceUID=1.2.0.1": [],
+    "StudyInstanceUID=1.2.0": EACH, "Modality=MR": EACH,
+}
+
+
+def study_images(tally: Tally, pair: Pair) -> None:
+    """The images of all series of a study, one series after the other (PS3.18 section 10.6.1);
+    those of the neighbour's study with the same UID stay unseen."""
+    for series, images in reversed(IN_STUDY.items()):
+        for number, image in reversed(list(enumerate(images, 1))):
+            pair.play(store_line(1, image, "1.5", SeriesInstanceUID=series, InstanceNumber=number))
+    pair.play(store_line(2, "1.5.4.1", "1.5", SeriesInstanceUID="1.5.1", InstanceNumber=7))
+    target = "/NORTH/rs/studies/1.5/instances"
+    for query, wanted in FOUND_IN_STUDY.items():
+        told = pair.compare(tally, "the images of a study", "GET", f"{target}?{query}", "NORTH")
+        found = [one["00080018"]["Value"][0] for one in (told.json() if told.body else [])]
+        tally.check(f"the images of a study, by hand: {query}",
+                    told.status == (200 if wanted else 204) and found == wanted, found)
+    for line, name in ((target, "NORTH"), (f"{target}?limit=1", "NORTH"), (target, "SOUTH")):
+        pair.compare(tally, "the images of a study", "HEAD", line, name)
+    told = pair.compare(tally, "the neighbour's", "GET", "/SOUTH/rs/studies/1.5/instances", "SOUTH")
+    tally.check("the neighbour's, by hand", [one["00080018"]["Value"] for one in told.json()]
+                == [["1.5.4.1"]], told.body)
+    told = pair.ask("GET", "/NORTH/rs/studies/1.6/instances", "NORTH")
+    tally.check("a study that is not kept, by hand", (told.status, told.body) == (204, b""),
+                told.head)
+
+
+def long_page(tally: Tally, pair: Pair, count: int = 96) -> None:
     """A page has 100 answers where nothing else is said."""
     for at in range(3, 3 + count):
         pair.play(store_line(1, f"1.2.{at}.1.1", f"1.2.{at}", PatientName=f"LONG^{at}",
@@ -199,9 +250,19 @@ def names(tally: Tally, folder: pathlib.Path) -> None:
                   store_line(1, "1.2.3.1.1", "1.2.3", PatientName="0x4df36c6c6572",
                              SpecificCharacterSet="ISO_IR 100"),
                   store_line(1, "1.2.4.1.1", "1.2.4", PatientName="0x01021b7f"),
-                  store_line(1, "1.2.5.1.1", "1.2.5", PatientName="</script>"))
+                  store_line(1, "1.2.5.1.1", "1.2.5", PatientName="</script>"),
+                  # sets with escape sequences are not converted (PS3.5 annexes H and I)
+                  store_line(1, "1.2.6.1.1", "1.2.6", PatientName="0x" + (
+                      b"Yamada^Tarou=\x1b$B;3ED\x1b(B^\x1b$BB@O:\x1b(B").hex(),
+                             SpecificCharacterSet="\\\\ISO 2022 IR 87"),
+                  store_line(1, "1.2.7.1.1", "1.2.7", PatientName="0x" + (
+                      b"Hong^Gildong=\x1b$)C\xfb\xf3^\x1b$)C\xd1\xce\xd4\xd7").hex(),
+                             SpecificCharacterSet="\\\\ISO 2022 IR 149"))
         told = pair.compare(tally, "names", "GET", "/NORTH/rs/studies", "NORTH")
-        tally.check("names are JSON", len(told.json()) == 5, told.body)
+        tally.check("names are JSON", len(told.json()) == 7, told.body)
+        tally.check("a name that is not converted", told.json()[6]["00100010"]["Value"] == [
+            {"Alphabetic": "Hong^Gildong", "Ideographic": "\x1b$)C\ufffd\ufffd^\x1b$)C"
+             "\ufffd\ufffd\ufffd\ufffd"}], told.json()[6])
         pair.compare(tally, "a name in UTF-8", "GET", "/NORTH/rs/studies?PatientName=Zo%C3%AB*",
                      "NORTH")
 

@@ -13,7 +13,8 @@ OTHERS = ["https://viewer.hospital.example", "http://viewer.hospital.example:844
           "HTTPS://VIEWER.HOSPITAL.EXAMPLE:8443", "https://x.viewer.hospital.example:8443",
           "viewer.hospital.example:8443", f"{VIEWER} {VIEWER}", "*", "null", ""]
 SEARCHED = ["rs/studies", "rs/studies?PatientName=DOE*&limit=1", "rs/studies/1.2.0/series",
-            "rs/studies/1.2.0/series/1.2.0.1/instances", "rs/series", "worklist", "steps", "counts"]
+            "rs/studies/1.2.0/series/1.2.0.1/instances", "rs/studies/1.2.0/instances?limit=2",
+            "rs/series", "worklist", "steps", "counts"]
 UNSEARCHED = ["/", "/page.css", "/page.js", "/health", "/metrics", "/backup", "/nowhere",
               "/NORTH/worklist/S2", "/NORTH/nowhere"]
 

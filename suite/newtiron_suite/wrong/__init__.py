@@ -16,14 +16,15 @@ from .answers import (Stop, answers_at_most, answers_in_turn, attribute_dropped,
                       shares_rows, silent_at_most, started_is_free, started_not_counted,
                       started_stays_started, starts_every_value, starts_none, starts_of_all,
                       stop_at_unreadable)
-from .front import (web_asks_in_utf8_only, web_bids_anybody_go_on, web_closes_each,
-                    web_copies_nothing, web_counts_no, web_counts_no_requests, web_counts_no_turns,
-                    web_forgets_keys, web_gives_what_is_not_accepted, web_keeps_keys,
+from .front import (web_arrays_of, web_asks_in_utf8_only, web_bids_anybody_go_on,
+                    web_closes_each, web_copies_nothing, web_counts_no, web_counts_no_requests,
+                    web_counts_no_turns, web_forgets_keys, web_gives_what_is_not_accepted,
+                    web_keeps_keys,
                     web_key_of_any_right, web_key_of_anybody, web_look_withdraws, web_page_with,
                     web_pages_of, web_paths_go_up, web_reads_no_json, web_refuses_as,
                     web_rows_of_the_first, web_sends_a_body_to_head, web_shares_with_anybody,
                     web_stays_open, web_takes_any_host, web_takes_any_method, web_takes_two_hosts,
-                    web_tells_no_place, web_waits_for_one, web_without)
+                    web_tells_no_place, web_tells_no_rest, web_waits_for_one, web_without)
 from .peers import (abort_reason, answers_before_release, cancels_any, dear_pdus, drops_the_rest,
                     drops_what_is_left, fragments_at_most, last_response_twice, longest_pdu,
                     looks_at_all_held, opens_at_most, page_of, pages_found_anew)
@@ -91,6 +92,7 @@ FAULTS: dict[str, Callable[..., None]] = {
     "web-keeps-keys": web_keeps_keys, "web-forgets-keys": web_forgets_keys,
     "web-rows-of-the-first": web_rows_of_the_first,
     "web-pages-of": web_pages_of, "web-refuses-as": web_refuses_as,
+    "web-arrays-of": web_arrays_of, "web-tells-no-rest": web_tells_no_rest,
     "web-look-withdraws": web_look_withdraws, "web-takes-any-method": web_takes_any_method,
     "web-takes-any-host": web_takes_any_host, "web-takes-two-hosts": web_takes_two_hosts,
     "web-sends-a-body-to-head": web_sends_a_body_to_head, "web-stays-open": web_stays_open,

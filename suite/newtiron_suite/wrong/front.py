@@ -69,6 +69,24 @@ def web_pages_of(most: str) -> None:
     web.USUAL_PAGE = int(most)
 
 
+def web_arrays_of(most: str) -> None:
+    """A page ends at another length."""
+    web.LONGEST_ARRAY = int(most)
+
+
+def web_tells_no_rest() -> None:
+    """A page that ends early does not say so."""
+    right = web.answered
+
+    def answered(*words: Any) -> Answer:
+        told = right(*words)
+        if len(told.body) > web.LONGEST_ARRAY // 2:
+            told.fields.pop("Warning", None)
+        return told
+
+    web.answered = answered
+
+
 def web_refuses_as(status: str) -> None:
     """Orders that are refused have this status."""
     web.REFUSED_ORDERS = dict.fromkeys(web.REFUSED_ORDERS, int(status))

@@ -154,9 +154,10 @@ async function ask(path, { method = \"GET\", body, type = \"text/plain\", of = s
   throw Object.assign(new Error(text), { status: answer.status });
 }
 
+// Rows, and whether there may be more: the server ends a page at its limit, or before that at 8 MiB, and its warning says so.
 async function askRows(path, of = session) {
   const answer = await ask(path, { of });
-  return answer.status === 204 ? [] : answer.json();
+  return { rows: answer.status === 204 ? [] : await answer.json(), isFull: /page is full/.test(answer.headers.get(\"Warning\")) };
 }
 
 async function askBars() {
@@ -207,14 +208,14 @@ function rowsPath(view, limit, offset) {
 // meets every key of it (PS3.4 section C.2.2.2): here such records are left out.
 async function askInOrder(view) {
   const { order, columns: [[, ...tags]] } = LISTS[view.list], rows = [];
-  let part = [];
+  let part = {};
   do {
     part = await askRows(rowsPath(view, LONGEST, rows.length));
-    rows.push(...part);
-  } while (part.length === LONGEST && rows.length < MOST);
+    rows.push(...part.rows);
+  } while (part.isFull && rows.length < MOST);
   const found = rows.filter(row => searchKeys(view).every(([tag]) => textOf(row, tag)));
   const pairs = found.map(row => [textOf(row, ...tags), row]).sort(([a], [b]) => order * ((a > b) - (a < b)));
-  return { all: pairs.map(([, row]) => row), of: rows.length < MOST ? ` of ${found.length}` : \". There are more: narrow the search.\" };
+  return { all: pairs.map(([, row]) => row), of: !part.isFull ? ` of ${found.length}` : \". There are more: narrow the search.\" };
 }
 
 // The rows of the page that a view shows, whether there is another, and of how many they are. Lists that nobody searches stay in the
@@ -225,8 +226,8 @@ async function askPage(view) {
     const { all, of } = await askInOrder(view);
     return { rows: all.slice(offset, offset + PAGE), isMore: all.length > offset + PAGE, of };
   }
-  const rows = await askRows(rowsPath(view, PAGE + 1, offset));
-  return { rows: rows.slice(0, PAGE), isMore: rows.length > PAGE, of: \"\" };
+  const { rows, isFull } = await askRows(rowsPath(view, PAGE + 1, offset));
+  return { rows: rows.slice(0, PAGE), isMore: isFull, of: \"\" };
 }
 
 function load() {
@@ -244,7 +245,8 @@ function load() {
 
 function showPage(view, { rows, isMore, of }) {
   const { title, keys } = LISTS[view.list], text = JSON.stringify([views.length, view.list, rows]);
-  say($(\"range\"), rows.length ? `${view.offset + 1} to ${view.offset + rows.length}${of}` : \"Nothing found\");
+  view.end = view.offset + rows.length;
+  say($(\"range\"), rows.length ? `${view.offset + 1} to ${view.end}${of}` : \"Nothing found\");
   $(\"back\").disabled = view.offset === 0;
   $(\"next\").disabled = !isMore;
   $(\"finding\").hidden = !keys;
@@ -286,7 +288,7 @@ function row(list, record) {
     first.append(button);
     // (somebody who marks text to copy it opens nothing)
     whole.onclick = ({ target }) => (button.contains(target) || getSelection().isCollapsed) &&
-      go(() => views.push({ list: below, above: record, offset: 0 }));
+      go(() => views.push({ list: below, above: record, offset: 0, earlier: [] }));
   }
   const buttons = Object.entries(actions).map(([name, act]) =>
     create(\"button\", name, { onclick: () => act(record), ariaLabel: `${name} ${textOf(record, STEP_ID)}` }));
@@ -298,6 +300,18 @@ function row(list, record) {
 function go(move) {
   move();
   load();
+}
+
+// Goes on behind the rows that are shown, which may be fewer than PAGE. Until the next ones are, pressing again changes nothing.
+function goNext() {
+  const view = views.at(-1), { offset, end = offset } = view;
+  if (end > offset) view.earlier.push(offset);
+  go(() => view.offset = end);
+}
+
+function goBack() {
+  const view = views.at(-1);
+  go(() => view.offset = view.earlier.pop() ?? 0);
 }
 
 function select(tab) {
@@ -327,7 +341,7 @@ function searchDay(day) {
 }
 
 function search() {
-  views = [{ list: views[0].list, offset: 0, search: readSearch() }];
+  views = [{ list: views[0].list, offset: 0, earlier: [], search: readSearch() }];
   load();
 }
 
@@ -346,7 +360,7 @@ function question(text, label, action) {
 
 // Withdraws an item, if it still waits and is as it was shown: else another may have its step ID by now.
 async function remove(record, of) {
-  const id = textOf(record, STEP_ID), rows = await askRows(`worklist?ScheduledProcedureStepID=${encodeURIComponent(id)}`, of);
+  const id = textOf(record, STEP_ID), { rows } = await askRows(`worklist?ScheduledProcedureStepID=${encodeURIComponent(id)}`, of);
   if (JSON.stringify(rows.find(one => textOf(one, STEP_ID) === id)) !== JSON.stringify(record)) {
     throw new Error(`${id} was started, changed or withdrawn meanwhile. Look at the list again.`);
   }
@@ -619,7 +633,7 @@ for (const [id, action] of Object.entries({ opening: signIn, search, entry: send
 }
 for (const [id, action] of Object.entries({
   out: () => signOut(\"Signed out.\"), today: () => searchDay(today()), days: () => searchDay(\"\"), propose, clear: () => begin(),
-  up: () => go(() => views.pop()), back: () => go(() => views.at(-1).offset -= PAGE), next: () => go(() => views.at(-1).offset += PAGE),
+  up: () => go(() => views.pop()), back: goBack, next: goNext,
   again: load, measure: () => attempt($(\"state\"), askMetrics, showMetrics), no: () => $(\"question\").close(),
 })) $(id).onclick = action;
 for (const kind of [\"keydown\", \"pointerdown\", \"wheel\"]) addEventListener(kind, noteUse, { capture: true, passive: true });

@@ -1,7 +1,7 @@
-use Rattle.std.proofs.Common.{inl, refl}
-use Rattle.dq_captures.proofs.WrittenLines.{OnErr-known}
+use Rattle.std.proofs.Common.{refl}
+use Rattle.dq_console.proofs.Outcomes.{if_error}
 use Rattle.dq_console.proofs.requests.count.Goals as goal
 
 pub returns-in_err-push-clause-cut : goal.returns-in_err-push-clause-cut
 returns-in_err-push-clause-cut g c =
-    OnErr-known c.from_residual-in_err-push.result (_, c.in_ok-counted.ensures.leads.0, inl refl)
+    if_error _ c.from_residual-in_err-push.result _ c.from_residual-in_err-push.ensures.1 (_, c.in_ok-counted.ensures.leads.0, refl)

@@ -4,11 +4,11 @@ use Rattle.dq_tables.specs.Rows.{of}
 use Rattle.dq_archive.specs.PastArchives.{records_in}
 use Rattle.dq_archive.proofs.PastLookups.{records_now}
 use Rattle.dq_find.specs.LazyAnswers.{found_then}
-use Rattle.dq_find.specs.Queries.{found_by, query_outcome}
+use Rattle.dq_find.specs.Queries.{identifier_query, found_by, query_outcome, message_query}
 use Rattle.dq_find.proofs.lazy_answers.begin_find.Goals as goal
 
 pub returns-clause-found : goal.returns-clause-found
-unfolding query_outcome
+unfolding query_outcome message_query
 returns-clause-found g c =
     let state = g.T.Tables.state in
     let past = c.new-archive.result in
@@ -20,5 +20,5 @@ returns-clause-found g c =
     let found : (state c.begin_at.new.archive.tables.now).honest
     → found_then c.in_ok-found.found records ≡ query_outcome records called (plain_message c.args.message.now) c.args.syntax =
     λ h. ap (found_then c.in_ok-found.found) (sym own) ∙ c.in_ok-found.ensures.found h
-    ∙ (λ i. found_by (own i) called (c.in_ok-asked.ensures.query i)) in
+    ∙ (λ i. found_by (own i) called ((c.in_ok-asked.ensures.query ∙ ap identifier_query c.in_ok-identifier.ensures) i)) in
     grind arith

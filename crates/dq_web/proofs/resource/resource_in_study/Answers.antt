@@ -11,20 +11,20 @@ same-series one other is = cc
 pub returns-in_default-behind : goal.returns-in_default-behind
 returns-in_default-behind c =
     no-study c.args.institution.now c.args.rest.now c.in-Some.study.now c.in-Some.rest.now c.in-Some.ensures.0 c.in-Some.ensures.1
-    (search rules) (λ series segment is. c.in_default-behind.ensures (beneath series (codes "instances")) is)
+    (search rules) (search rules) (λ series segment is. c.in_default-behind.ensures (beneath series (codes "instances")) is)
 
 pub returns-in_default-at_slash : goal.returns-in_default-at_slash
 returns-in_default-at_slash c =
     no-study c.args.institution.now c.args.rest.now c.in-Some.study.now c.in-Some.rest.now c.in-Some.ensures.0 c.in-Some.ensures.1
-    (search rules) (λ series segment is. beneath-slash series (codes "instances")
+    (search rules) (search rules) (λ series segment is. beneath-slash series (codes "instances")
     (subst (λ (text : List ℕ). IsTrue (is_segment text))
     (same-series c.in-Some-behind.rest.now (beneath series (codes "instances")) (sym c.in-Some-behind.ensures ∙ is))
     c.in_default-at_slash.ensures))
 
-pub returns-else-eq-2 : goal.returns-else-eq-2
-returns-else-eq-2 c =
+pub returns-else-eq-3 : goal.returns-else-eq-3
+returns-else-eq-3 c =
     let last : c.in-Some-at_slash.rest.now ≢ codes "instances" = search rules in
     no-study c.args.institution.now c.args.rest.now c.in-Some.study.now c.in-Some.rest.now c.in-Some.ensures.0 c.in-Some.ensures.1
-    (search rules) (λ series segment is. last
+    (search rules) (search rules) (λ series segment is. last
     (same-segment c.in-Some-at_slash.series.now series c.in-Some-at_slash.rest.now (codes "instances") c.in-Some-at_slash.ensures.1 segment
     (sym c.in-Some-at_slash.ensures.0 ∙ same-series c.in-Some-behind.rest.now (beneath series (codes "instances")) (sym c.in-Some-behind.ensures ∙ is))).1)

@@ -1,19 +1,19 @@
-use Rattle.dq_captures.proofs.WrittenLines.{OnErr-known}
-use Rattle.dq_console.proofs.ServiceProgress.{responds, request-halted, halted-before, unanswered-after}
+use Rattle.dq_console.proofs.Outcomes.{if_error}
+use Rattle.dq_console.proofs.ServiceProgress.{responds, not-answered, unanswered-after}
 use Rattle.dq_console.proofs.console.ConsoleHandler.respond.Goals as goal
-
-pub returns-in_err-note-clause-cut : goal.returns-in_err-note-clause-cut
-returns-in_err-note-clause-cut g c = OnErr-known c.from_residual.result (halted-before g.T.Tables.state _ _)
 
 pub returns-in_err-response-clause-cut : goal.returns-in_err-response-clause-cut
 returns-in_err-response-clause-cut g c =
-    OnErr-known c.from_residual-in_err-response.result (request-halted g.T.Tables.state c.calls_are_a_serving.ensures.order
-    c.calls_are_a_serving.ensures.look _ c.in_err-response.ensures.cut)
+    let left = c.in_err-response.ensures in
+    if_error _ c.from_residual-in_err-response.result _ c.from_residual-in_err-response.ensures.1
+    (not-answered g.T.Tables.state _ _ c.calls_are_a_serving.ensures.order c.calls_are_a_serving.ensures.look left.hold _ _ left.fault left.cut)
 
 pub returns-in_err-answer-clause-cut : goal.returns-in_err-answer-clause-cut
 returns-in_err-answer-clause-cut g c =
-    OnErr-known c.from_residual-in_err-answer.result (request-halted g.T.Tables.state c.calls_are_a_serving.ensures.order
-    c.calls_are_a_serving.ensures.look _ (unanswered-after g.T.Tables.state _ _ _ _ _ _ c.in_ok-response.ensures.answered))
+    let answered = c.in_ok-response.ensures in
+    if_error _ c.from_residual-in_err-answer.result _ c.from_residual-in_err-answer.ensures.1
+    (not-answered g.T.Tables.state _ _ c.calls_are_a_serving.ensures.order c.calls_are_a_serving.ensures.look answered.hold _ _
+    (λ goes_on. answered.fault) (unanswered-after g.T.Tables.state _ _ _ _ _ _ answered.answered))
 
 pub returns-clause-answers : goal.returns-clause-answers
 returns-clause-answers g c =

@@ -1,4 +1,4 @@
-use Rattle.std.proofs.Common.{◌≡◌, true, false, refl, sym, ap, ◌∙◌}
+use Rattle.std.proofs.Common.{◌≡◌, true, false, None, refl, sym, ap, ◌∙◌}
 use Rattle.dq_console.specs.Console.{HeldClient}
 use Rattle.dq_wires.proofs.Logging.{logs-none}
 use Rattle.dq_console.specs.Console.ClientTurn.{Offered, Closed, Forgotten}
@@ -35,7 +35,7 @@ pub returns-in-Err : goal.returns-in-Err
 returns-in-Err g c =
     let over : c.args.self.now.is_over ≡ false = ap (λ (v : HeldClient). v.is_over) (sym c.self.view_is) ∙ c.if-self.false in
     record {
-      client_turn = Forgotten;
+      client_turn = Forgotten None;
       is = (c.if-is_sending.ensures, over);
       quiet = refl;
       tells = λ institutions names rows done. tt;

@@ -1,15 +1,14 @@
-use Rattle.std.proofs.Common.{◌≡◌, inr}
-use Rattle.std.proofs.lemmas.Result.{IfErr-weaker}
-use Rattle.dq_core.specs.Looking.{FailsToLook}
+use Rattle.std.proofs.Common.{refl}
 use Rattle.dq_core.proofs.Looking.{looked-none}
-use Rattle.dq_console.specs.Requests.{LooksInPart}
+use Rattle.dq_console.proofs.Outcomes.{if_error}
 use Rattle.dq_console.proofs.requests.TurnerCounting.count_rows.Goals as goal
 
-pub returns-clause-fails : goal.returns-clause-fails
-returns-clause-fails g c =
-    let state = g.T.Tables.state in
-    let old = c.args.self.now.server in
-    let new = c.look.new.self.server in
-    IfErr-weaker c.look.result (FailsToLook state old new)
-    (λ why. LooksInPart state old new × (c.look.new.self.hold ≡ c.args.self.now.hold))
-    (λ why fails. ((old, looked-none old, inr (inr (why, fails))), c.look.ensures.hold)) c.look.ensures.fails
+pub returns-in_err-look-clause-fails : goal.returns-in_err-look-clause-fails
+returns-in_err-look-clause-fails g c =
+    if_error _ c.from_residual.result _ c.from_residual.ensures.1
+    ((_, looked-none _, c.in_err-look.ensures.fails), c.look.ensures.hold, λ goes_on. absurd (cc))
+
+pub returns-in_err-branch-clause-fails : goal.returns-in_err-branch-clause-fails
+returns-in_err-branch-clause-fails g c =
+    if_error _ c.from_residual-in_err-branch.result _ c.from_residual-in_err-branch.ensures.1
+    ((_, c.in_ok-look.ensures.looked, refl), c.look.ensures.hold, λ goes_on. c.in_ok-look.ensures.fault)

@@ -1,0 +1,5 @@
+use Rattle.std.proofs.Common.{◌≡◌}
+use Rattle.dq_wires.proofs.log.association_log.AssociationLog.note.Given as goal
+
+abbrev pub invariant-loop-note : goal.invariant-loop-note
+invariant-loop-note g l = l.self.watched ≡ l.fn.self.watched

@@ -1,9 +1,0 @@
-use Rattle.std.proofs.Common.{[]}
-use Rattle.dq_wires.specs.Looping.{ActsOn}
-use Rattle.dq_wires.proofs.looping.Loopback.open.Given as goal
-
-abbrev pub invariant-turns : goal.invariant-turns
-invariant-turns g l = ActsOn g.T.Tables.state (g.W.Wires.log l.fn.self.wires.wires) (g.W.Wires.log l.self.wires.wires) l.fn.self.turner l.self.turner []
-
-abbrev pub decreases-turns : goal.decreases-turns
-decreases-turns g l = l.self.turns

@@ -1,6 +1,0 @@
-use Rattle.std.proofs.Common.{◌∙◌}
-use Rattle.dq_wires.proofs.Playing.{acts-order}
-use Rattle.dq_wires.proofs.looping.Loopback.order.Goals as goal
-
-pub returns : goal.returns
-returns g c = acts-order c.requires.order c.in_ok-_reply.ensures.stepped c.console.ensures.hold (c.in_ok-_reply.ensures.fault ∙ c.requires.working)
