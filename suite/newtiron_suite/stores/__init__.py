@@ -22,6 +22,7 @@ adopted by the program.
                 run without a stop does
     torn        each write, each change of length and each sync of the files refused in turn: the
                 replies that are printed are the first ones, and what is left is adopted as above
+    full        a disk with no room left: as torn (by root, where a disk can be mounted)
     closed      after `replay`, `report`, `migrate`, `copy`, `export` and `serve --turns` the
                 database file has all rows without its log; where a run stops before its end they
                 are in the two files
@@ -64,7 +65,7 @@ import sys
 from ..tally import Part, play_parts
 from .common import WANTED
 from .copies import checked, duplicated, half_duplicated, unduplicated
-from .ended import closed, held, killed, torn
+from .ended import closed, full, held, killed, torn
 from .exports import exported, half_exported, told, unexported
 from .migrations import half_migrated, migrated, unmigrated
 from .refused import flipped, refused, truncated
@@ -73,6 +74,7 @@ from .written import adopted, by_hand, played, written
 PARTS: dict[str, Part] = {
     "written": written, "adopted": adopted, "played": played, "by_hand": by_hand,
     "refused": refused, "truncated": truncated, "flipped": flipped, "killed": killed, "torn": torn,
+    "full": full,
     "closed": closed, "held": held, "migrated": migrated, "unmigrated": unmigrated,
     "half_migrated": half_migrated, "checked": checked, "duplicated": duplicated,
     "unduplicated": unduplicated, "half_duplicated": half_duplicated, "exported": exported,

@@ -179,6 +179,38 @@ def torn_calls(tally: Tally, folder: pathlib.Path, library: pathlib.Path,
     return 0
 
 
+# Plays a capture over a new store on a file system of a size, and takes the store out of it.
+IN_LITTLE_ROOM = """
+mount -t tmpfs -o "size=$1" none "$2/small" || exit 99
+"$3" replay --config "$4" --new "$2/small/full.db"
+status=$?
+cp "$2/small"/* "$2"
+exit $status
+"""
+
+
+def full(tally: Tally, folder: pathlib.Path) -> None:
+    """A disk with no room left, where one can be mounted."""
+    configuration, capture = CONFIGURATIONS / "long_run.toml", long_capture()
+    prefixes, expected = Prefixes(capture), Model(configuration).play(capture)
+    for size in ("32k", "128k", "512k", "1m"):
+        place = pathlib.Path(tempfile.mkdtemp(dir=folder))
+        (place / "small").mkdir()
+        run = Run(["-m", "sh", "-c", IN_LITTLE_ROOM, "sh", size, place, PROGRAM, configuration],
+                  capture, program="unshare")
+        if run.status == 99 or run.told.startswith(b"unshare:"):
+            print(f"skipped: no disk can be mounted here: {run}")
+            return
+        answered = run.out.count(b"\n")
+        tally.check(f"a disk of {size}: replies",
+                    run.status == 4 and run.told in (b"fault 2\n", b"store 2\n")
+                    and expected.startswith(run.out) and answered < expected.count(b"\n"), run)
+        at = left(tally, f"a disk of {size}", place / "full.db", folder, prefixes, configuration)
+        tally.check(f"a disk of {size}: what was answered", run.told == b"store 2\n"
+                    or at is not None and is_kept(prefixes, capture, at, answered),
+                    f"after {at}, {answered} answered")
+
+
 def is_kept(prefixes: Prefixes, capture: bytes, at: int, answered: int) -> bool:
     """The rows after event `at` are those after the answered events, or after the one in hand
     too."""
