@@ -177,10 +177,9 @@ def sizes(tally: Tally, _: object) -> None:
               40),
         Shape("a change of as many fixed elements", costly.changed_step(0x0010),
               (10000, 20000, 40000), 4, 40),
-        # known: each change reads and writes the whole step, of 4 MiB at most (docs/SPEED.md);
-        # echoes of its 1,240 octets take 2.3 kB
+        # known: each change reads and writes the whole step, of 4 MiB at most (docs/SPEED.md)
         Shape("small changes of a step of so many elements", costly.small_changes,
-              (20000, 40000, 80000), 4000, 16000, 8)])
+              (20000, 40000, 80000), 4000, 4000, 8)])
 
 
 def wild(tally: Tally, _: object) -> None:
