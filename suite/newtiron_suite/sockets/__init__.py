@@ -32,7 +32,7 @@
     searches    what the console shows of two hospitals with the same UIDs: studies, series, images,
                 entries and steps, page by page, and its refusals
     memory      each allocation refused in turn while the console answers a search, a report and an
-                order: its client is let go, and others are served
+                order: its client is let go, and others are served, or an order ends the service
     file        the rights of the files that the server makes; the console's socket file: one that
                 was left behind, one that is in use
     callers     the ninth caller of the console waits, and one who says nothing for a minute is let

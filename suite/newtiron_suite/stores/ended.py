@@ -193,6 +193,7 @@ def full(tally: Tally, folder: pathlib.Path) -> None:
     """A disk with no room left, where one can be mounted."""
     configuration, capture = CONFIGURATIONS / "long_run.toml", long_capture()
     prefixes, expected = Prefixes(capture), Model(configuration).play(capture)
+    most = 0
     for size in ("32k", "128k", "512k", "1m"):
         place = pathlib.Path(tempfile.mkdtemp(dir=folder))
         (place / "small").mkdir()
@@ -202,6 +203,7 @@ def full(tally: Tally, folder: pathlib.Path) -> None:
             print(f"skipped: no disk can be mounted here: {run}")
             return
         answered = run.out.count(b"\n")
+        most = max(most, answered)
         tally.check(f"a disk of {size}: replies",
                     run.status == 4 and run.told in (b"fault 2\n", b"store 2\n")
                     and expected.startswith(run.out) and answered < expected.count(b"\n"), run)
@@ -209,6 +211,7 @@ def full(tally: Tally, folder: pathlib.Path) -> None:
         tally.check(f"a disk of {size}: what was answered", run.told == b"store 2\n"
                     or at is not None and is_kept(prefixes, capture, at, answered),
                     f"after {at}, {answered} answered")
+    tally.check("a disk that is full after some operations", most > 10, most)
 
 
 def is_kept(prefixes: Prefixes, capture: bytes, at: int, answered: int) -> bool:
