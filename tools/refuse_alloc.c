@@ -1,12 +1,14 @@
 /* Refuses one allocation of a program: a library to be preloaded, for the suite of refused memory. It is no part of
  * the product. REFUSE_ALLOC=N refuses the Nth call of malloc, calloc, realloc or aligned allocation, counted from 1,
- * and makes the file that REFUSE_ALLOC_MARK names. Where REFUSE_ALLOC_WHILE names a file, calls count while it exists. */
+ * and makes the file that REFUSE_ALLOC_MARK names. Where REFUSE_ALLOC_WHILE names a file, calls count while it exists; each
+ * time that it is written they count anew, up to the number that it has, if it has one. */
 #define _GNU_SOURCE
 #include <dlfcn.h>
 #include <errno.h>
 #include <fcntl.h>
 #include <stddef.h>
 #include <stdlib.h>
+#include <sys/stat.h>
 #include <unistd.h>
 
 static void *(*next_malloc)(size_t);
@@ -17,6 +19,7 @@ static void *(*next_aligned_alloc)(size_t, size_t);
 static long refused_call;
 static long calls;
 static const char *counted;
+static struct timespec counted_since;
 /* What is asked for while the library finds its functions comes from here. */
 static char early[4096];
 static size_t early_used;
@@ -33,15 +36,31 @@ __attribute__((constructor)) static void begin(void) {
     counted = getenv("REFUSE_ALLOC_WHILE");
 }
 
+static void begin_anew(struct timespec since) {
+    char number[32] = "";
+    int file = open(counted, O_RDONLY);
+    counted_since = since;
+    calls = 0;
+    if (file >= 0 && read(file, number, sizeof number - 1) > 0)
+        refused_call = atol(number);
+    if (file >= 0)
+        close(file);
+}
+
 static int is_counted(void) {
+    if (counted == NULL)
+        return 1;
     int before = errno;
-    int is_there = counted == NULL || access(counted, F_OK) == 0;
+    struct stat seen;
+    int is_there = stat(counted, &seen) == 0;
+    if (is_there && (seen.st_mtim.tv_sec != counted_since.tv_sec || seen.st_mtim.tv_nsec != counted_since.tv_nsec))
+        begin_anew(seen.st_mtim);
     errno = before;
     return is_there;
 }
 
 static int refuse(void) {
-    if (refused_call == 0 || !is_counted() || ++calls != refused_call)
+    if (!is_counted() || refused_call == 0 || ++calls != refused_call)
         return 0;
     const char *mark = getenv("REFUSE_ALLOC_MARK");
     if (mark) {

@@ -234,6 +234,17 @@ class Client:
             found.append(self.status())
         return found
 
+    def goes_on(self, octets: bytes, seconds: float = 0.5) -> bool:
+        """Whether these octets can be sent in twenty parts, over so many seconds: the server does
+        not reset the connection meanwhile."""
+        size = -(-len(octets) // 20)
+        with contextlib.suppress(ConnectionResetError, BrokenPipeError):
+            for at in range(0, len(octets), size):
+                self.send(octets[at:at + size])
+                time.sleep(seconds / 20)
+            return not self.socket.getsockopt(socket.SOL_SOCKET, socket.SO_ERROR)
+        return False
+
     def end(self) -> None:
         """Sends no more."""
         with contextlib.suppress(OSError):

@@ -23,6 +23,7 @@ notices 'a server that waits for one' deaf "$sockets" "$(server socket-waits-for
 notices 'a server that holds 32' many "$sockets" "$(server socket-holds:32)" many
 notices 'a server that holds 100' 'a 65th is not served' "$sockets" "$(server socket-holds:100)" many
 notices 'a server that answers one hospital first' 'it waits for few of them' env PATIENCE=20 "$sockets" "$right" shares
+notices 'a close that loses the last PDU' 'who goes on sending' "$sockets" "$right" lingering
 notices 'a server that a reset stops' 'resets: it goes on' "$sockets" "$(server socket-stops-at-a-reset)" resets
 notices 'associations that outlast their connection' half "$sockets" "$(server socket-keeps-what-ended)" half
 notices 'a server that spins' 'idle without connections' "$sockets" "$(server socket-spins)" idle

@@ -29,6 +29,7 @@ notices 'a host of any name' 'Host evil.example' "$front" "$(server web-takes-an
 notices 'a viewer of any origin' 'the origin https://viewer' "$front" "$(server web-shares-with-anybody)" viewers
 notices 'a path that goes up' 'a path that goes up' "$front" "$(server web-paths-go-up)" methods
 notices 'a connection that stays open' 'it is closed at once' "$front" "$(server web-stays-open)" grammar
+notices 'a close that loses the last response' 'who goes on sending is answered' "$front" "$right" lingering
 notices 'a body that is awaited without a key' 'no 100 Continue' "$front" "$(server web-bids-anybody-go-on)" grammar
 notices 'a form that is not accepted' 'rs/studies' "$front" "$(server web-gives-what-is-not-accepted)" searches
 notices 'a name that is looked for in UTF-8 only' 'a name as' "$front" "$(server web-asks-in-utf8-only)" searches

@@ -43,13 +43,7 @@ module _ (institutions : List Institution) (rows : List Row) (events : List Even
     rw are.first at cut.3,
   )
   cuts-given before after stop.Output are part = AppendsPart-items printed_line before after (replies institutions rows events) (length given) (rw are.first at part)
-  cuts-given before after stop.Usage are cut = cut
-  cuts-given before after (stop.Config number) are cut = cut
-  cuts-given before after (stop.Unfit misfit) are cut = cut
-  cuts-given before after (stop.Keys line) are cut = cut
-  cuts-given before after (stop.Capture number) are cut = cut
-  cuts-given before after (stop.Store number) are cut = cut
-  cuts-given before after stop.Network are cut = cut
+  cuts-given before after other are cut = cut
 
 -- all lines were written, and not handed on
 pub AppendsPart-unflushed : (before mid after : Option (List ℕ)) (octets : List ℕ) → Appends before mid octets → Keeps mid after

@@ -18,22 +18,7 @@ use Rattle.dq_app.specs.Serving.{ready_text, IsListenError, HasCause, EndsServic
 
 memory_or_not : (k : ErrorKind) → (k ≡ kind.OutOfMemory) ⊎ (k ≢ kind.OutOfMemory)
 memory_or_not kind.OutOfMemory = inl refl
-memory_or_not kind.InvalidValue = inr (λ is. cc)
-memory_or_not kind.UnknownArgument = inr (λ is. cc)
-memory_or_not kind.InvalidSubcommand = inr (λ is. cc)
-memory_or_not kind.NoEquals = inr (λ is. cc)
-memory_or_not kind.ValueValidation = inr (λ is. cc)
-memory_or_not kind.TooManyValues = inr (λ is. cc)
-memory_or_not kind.TooFewValues = inr (λ is. cc)
-memory_or_not kind.WrongNumberOfValues = inr (λ is. cc)
-memory_or_not kind.ArgumentConflict = inr (λ is. cc)
-memory_or_not kind.MissingRequiredArgument = inr (λ is. cc)
-memory_or_not kind.MissingSubcommand = inr (λ is. cc)
-memory_or_not kind.DisplayHelp = inr (λ is. cc)
-memory_or_not kind.DisplayHelpOnMissingArgumentOrSubcommand = inr (λ is. cc)
-memory_or_not kind.DisplayVersion = inr (λ is. cc)
-memory_or_not kind.Io = inr (λ is. cc)
-memory_or_not kind.Format = inr (λ is. cc)
+memory_or_not other = inr (λ is. cc)
 
 pub keeps : (o : Option (List ℕ)) → Keeps o o
 keeps None = tt
@@ -74,14 +59,7 @@ module _ {Wired Console File : Type 0} (log : Wired → Option (List Call)) (con
   pub not_usage : (command : Command) (cause : Stop) → EndsEarly log console_log state held stored input before after unread unfed fails breaks command cause
       → status_of cause ≡ 1 → ⊥
   not_usage command Usage ends one = no-usage command ends
-  not_usage command (Config number) ends one = absurd (omega (arith, one))
-  not_usage command (Unfit misfit) ends one = absurd (omega (arith, one))
-  not_usage command (Keys line) ends one = absurd (omega (arith, one))
-  not_usage command (Capture number) ends one = absurd (omega (arith, one))
-  not_usage command (Store number) ends one = absurd (omega (arith, one))
-  not_usage command (Fault number) ends one = absurd (omega (arith, one))
-  not_usage command Output ends one = absurd (omega (arith, one))
-  not_usage command Network ends one = absurd (omega (arith, one))
+  not_usage command other ends one = absurd (omega (arith, one))
 
 module _ {Wired Console File : Type 0} (log : Wired → Option (List Call)) (console_log : Console → Option (List Call)) (state : File → State)
     (held : List ℕ → Option (List ℕ)) (stored : List ℕ → List Row → Type 0)
@@ -91,10 +69,8 @@ module _ {Wired Console File : Type 0} (log : Wired → Option (List Call)) (con
   unbegun (Plays request) = inl (keeps written, no_file unread held request.config)
   unbegun (Serves serving) = inl (keeps written, no_file unread held serving.config)
   unbegun (Loops file) = keeps written
-  unbegun (Migrates files) = inl (keeps written, refl)
-  unbegun (Checks checking) = inl (keeps written, refl)
   unbegun (Copies copying) = (keeps written, inl refl)
-  unbegun (Exports exporting) = inl (keeps written, refl)
+  unbegun other = inl (keeps written, refl)
 
   -- Words that ask for something are not read only for want of memory.
   pub unread_words : (found : Option Command) (command : Command) (Told : Stop → Type 0) (k : ErrorKind) (status : ℕ)
@@ -108,14 +84,7 @@ module _ {Wired Console File : Type 0} (log : Wired → Option (List Call)) (con
 
 pub status_bounds : (cause : Stop) → (1 ≤ status_of cause) × (status_of cause ≤ 5)
 status_bounds Usage = (omega arith, omega arith)
-status_bounds (Config number) = (omega arith, omega arith)
-status_bounds (Unfit misfit) = (omega arith, omega arith)
-status_bounds (Keys line) = (omega arith, omega arith)
-status_bounds (Capture number) = (omega arith, omega arith)
-status_bounds (Store number) = (omega arith, omega arith)
-status_bounds (Fault number) = (omega arith, omega arith)
-status_bounds Output = (omega arith, omega arith)
-status_bounds Network = (omega arith, omega arith)
+status_bounds other = (omega arith, omega arith)
 
 -- what holds of the output's failure holds of a stop that is one
 pub stops-at : (P : Stop → Type 0) (cause : Stop) → cause ≡ Output → P Output → P cause
@@ -138,26 +107,20 @@ module _ (breaks fails : Type 0) (before after : Option (List ℕ)) (port : ℕ)
   pub listen_error-ends : (IsSo : Stop → Type 0) (cause : Stop) → Keeps before after → IsListenError breaks cause → EndsService breaks fails before after port IsSo cause
   listen_error-ends IsSo (Fault number) kept is = inl (kept, is)
   listen_error-ends IsSo Network kept is = inl (kept, is)
-  listen_error-ends IsSo Usage kept is = is
-  listen_error-ends IsSo (Config number) kept is = is
-  listen_error-ends IsSo (Unfit misfit) kept is = is
   listen_error-ends IsSo (Keys line) kept is = kept
-  listen_error-ends IsSo (Capture number) kept is = is
   listen_error-ends IsSo (Store number) kept is = absurd is
   listen_error-ends IsSo Output kept is = absurd is
+  listen_error-ends IsSo other kept is = is
 
   -- it was stopped after it was ready
   pub cut-ends : (IsSo : Stop → Type 0) (cause : Stop) (cut : Cut) → Appends before after (ready_text port) → HasCause breaks cut cause → IsSo cause
       → EndsService breaks fails before after port IsSo cause
   cut-ends IsSo (Fault number) cut ready is so = inr (ready, is, so)
   cut-ends IsSo Network cut ready is so = inr (ready, so)
-  cut-ends IsSo Usage cut ready is so = is
-  cut-ends IsSo (Config number) cut ready is so = is
-  cut-ends IsSo (Unfit misfit) cut ready is so = is
   cut-ends IsSo (Keys line) cut ready is so = absurd is
-  cut-ends IsSo (Capture number) cut ready is so = is
   cut-ends IsSo (Store number) cut ready is so = absurd is
   cut-ends IsSo Output cut ready is so = absurd is
+  cut-ends IsSo other cut ready is so = is
 
   -- what went before is told otherwise
   pub ends-so : (IsSo IsAlso : Stop → Type 0) → ((cause : Stop) → IsSo cause → IsAlso cause) → (cause : Stop)
@@ -166,10 +129,4 @@ module _ (breaks fails : Type 0) (before after : Option (List ℕ)) (port : ℕ)
   ends-so IsSo IsAlso also (Fault number) (inr some) = inr (some.0, some.1, also (Fault number) some.2)
   ends-so IsSo IsAlso also Network (inl none) = inl none
   ends-so IsSo IsAlso also Network (inr some) = inr (some.0, also Network some.1)
-  ends-so IsSo IsAlso also Usage ends = ends
-  ends-so IsSo IsAlso also (Config number) ends = ends
-  ends-so IsSo IsAlso also (Unfit misfit) ends = ends
-  ends-so IsSo IsAlso also (Keys line) ends = ends
-  ends-so IsSo IsAlso also (Capture number) ends = ends
-  ends-so IsSo IsAlso also (Store number) ends = ends
-  ends-so IsSo IsAlso also Output ends = ends
+  ends-so IsSo IsAlso also other ends = ends

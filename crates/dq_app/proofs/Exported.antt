@@ -45,13 +45,7 @@ row-cut before mid after rows at row stop.Output within is done part =
     ap data_set_in is ∙ sym (get_or-map data_set_in rows at row (data_set_in row) within) in
     (BreaksOff-item json_line {May = Unit {0}} {Then = Unit {0}} before mid after (map data_set_in rows) at (data_set_in row) below here (λ u. u)
     (rw (take-map data_set_in at rows) done) (tt, part)).1
-row-cut before mid after rows at row stop.Usage within is done cut = cut
-row-cut before mid after rows at row (stop.Config number) within is done cut = cut
-row-cut before mid after rows at row (stop.Unfit misfit) within is done cut = cut
-row-cut before mid after rows at row (stop.Keys line) within is done cut = cut
-row-cut before mid after rows at row (stop.Capture number) within is done cut = cut
-row-cut before mid after rows at row (stop.Store number) within is done cut = cut
-row-cut before mid after rows at row stop.Network within is done cut = cut
+row-cut before mid after rows at row other within is done cut = cut
 
 module _ (records : List Record) (kinds : List Kind) (at : ℕ) (kind none : Kind) (within : at < length kinds) (is : kind ≡ get_or kinds at none) where
   abbrev later : List ElementList
@@ -85,13 +79,7 @@ module _ (records : List Record) (kinds : List Kind) (at : ℕ) (kind none : Kin
       let text : json_lines (exported_data_sets records kinds) ≡ json_lines first ++ (json_lines these ++ json_lines later) =
       ap json_lines parts ∙ flat_map-append json_line first (these ++ later) ∙ ap (λ (l : List ℕ). json_lines first ++ l) (flat_map-append json_line these later) in
       rw text (AppendsPart-after before mid after (json_lines first) (json_lines these) (json_lines later) done part)
-  kind-cut before mid after stop.Usage done cut = cut
-  kind-cut before mid after (stop.Config number) done cut = cut
-  kind-cut before mid after (stop.Unfit misfit) done cut = cut
-  kind-cut before mid after (stop.Keys line) done cut = cut
-  kind-cut before mid after (stop.Capture number) done cut = cut
-  kind-cut before mid after (stop.Store number) done cut = cut
-  kind-cut before mid after stop.Network done cut = cut
+  kind-cut before mid after other done cut = cut
 
 -- ---- of whose records it is
 

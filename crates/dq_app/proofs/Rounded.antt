@@ -356,7 +356,6 @@ module _ {Tables : Type 0} (state : Tables → State) where
       (attends : Attends state from.names from.calls to.calls mid new from.clients to.clients IsFront) where
     consoled-round : (turns : List Turn) → length turns ≡ 1 → WentOn state before after old mid (all_turned turns)
         → RoundsWent state before after old new 1 (Beside state before old new.server from to)
-    consoled-round [] is went = absurd (cc)
     consoled-round (turn ∷ []) is went =
         let attending = attends.attending in
         record {
@@ -372,7 +371,7 @@ module _ {Tables : Type 0} (state : Tables → State) where
           };
           went = rw (append-nil (attending_acts attending)) (went-then state went (attends.acts after));
         }
-    consoled-round (turn ∷ more ∷ turns) is went = absurd (cc)
+    consoled-round other is went = absurd (cc)
 
   -- a turn of all connections, and then one of the console, if there is one
   module _ {before after : Option (List Call)} {old : TurnerView Tables} (mid new : TurnerView Tables) where

@@ -422,7 +422,11 @@ impl<H: Host> Network for H {
         front.attend(wires, self.runtime());
         wires.mark_served(console.is_busy());
         let is_busy = console.is_busy() || front.is_busy();
-        let most = if is_busy { Duration::ZERO } else { most };
+        let most = if is_busy {
+            Duration::ZERO
+        } else {
+            front.longest_rest(most)
+        };
         console.begin_turn();
         front.begin_turn();
         wires.end_turn(self.runtime());

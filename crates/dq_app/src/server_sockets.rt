@@ -353,6 +353,14 @@ impl HttpSockets {
         }
     }
 
+    /// Returns how long those beside these may rest, of a rest that is so long at most.
+    pub fn longest_rest(&self, most: Duration) -> Duration {
+        match &self.front {
+            Some(front) => front.wires.longest_rest(most),
+            None => most,
+        }
+    }
+
     /// Looks what may be done, after the sockets beside these rested.
     pub fn look(&mut self, clock: &HostRuntime, is_called: bool) -> io::Result<()> {
         match &mut self.front {

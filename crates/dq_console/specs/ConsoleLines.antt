@@ -1,5 +1,5 @@
 -- How the console spells what is asked and what is answered.
-use Rattle.std.specs.Prelude.{◌≡◌, ◌==◌, ◌+◌, ℕ, Bool, not, nat_eq, List, [], ◌∷◌, ◌++◌, length, take, drop, filter, codes, string_bytes, Result, Ok, Err}
+use Rattle.std.specs.Prelude.{◌≡◌, ◌==◌, ◌+◌, ℕ, Bool, not, nat_eq, List, [], ◌∷◌, ◌++◌, length, take, drop, filter, codes, string_bytes, None, Result, Ok, Err}
 use Rattle.std.specs.Fmt.{decimal}
 use Rattle.std.specs.List.{flat_map, slice_split, position_or_len}
 use Rattle.std.specs.Str.{IsUtf8}
@@ -68,6 +68,7 @@ new_search subject rest = record {
   subject = subject;
   institution = name_in rest;
   keys = [];
+  after = None;
   page = record { offset = 0; limit = page_most };
 }
 

@@ -22,7 +22,6 @@ use Rattle.dq_core.specs.declared.fault.Fault.{Fault}
 use Rattle.dq_core.specs.declared.fault.Fault.TheVariants as fault
 use Rattle.dq_core.specs.declared.showing.SearchKind.{SearchKind}
 use Rattle.dq_core.specs.declared.showing.SearchKind.TheVariants as among
-use Rattle.dq_core.specs.declared.showing.ShownPage.{ShownPage}
 use Rattle.dq_core.specs.Looking.{Looked, FailsToLook}
 use Rattle.dq_core.specs.Showing.{found_for, steps_for}
 use Rattle.dq_core.specs.ServerView.{ServerView}
@@ -36,7 +35,6 @@ use Rattle.dq_request.specs.declared.response.Response.{Response}
 use Rattle.dq_request.specs.declared.response.Response.TheVariants as response
 use Rattle.dq_request.specs.declared.response.BackupError.{BackupError}
 use Rattle.dq_request.specs.declared.search.Search.{Search}
-use Rattle.dq_request.specs.declared.search.ShownPage.{ShownPage as Page}
 use Rattle.dq_request.specs.declared.search.Subject.{Subject}
 use Rattle.dq_request.specs.declared.search.Subject.TheVariants.{StudyImages, Worklist, Steps}
 use Rattle.dq_request.specs.Searches.{identifier_of}
@@ -45,14 +43,11 @@ use Rattle.dq_console.specs.declared.answer_error.AnswerError.TheVariants.{NoMem
 
 -- ---- searches
 
--- among what is searched
-abbrev pub kind_of : Subject → SearchKind
-kind_of Worklist = among.Worklist
-kind_of StudyImages = among.StudyImages
-kind_of subject = among.StudyRoot
-
-abbrev pub page_window : Page → ShownPage
-page_window page = record { offset = page.offset; limit = page.limit }
+-- among what is searched; studies, series and images of a series begin after a key, if there is one
+abbrev pub kind_of : Subject → Option (List ℕ) → SearchKind
+kind_of Worklist after = among.Worklist
+kind_of StudyImages after = among.StudyImages
+kind_of subject after = among.StudyRoot after
 
 -- what was found; the status of a search that is refused; or that no institution has the name
 abbrev pub found_response : Option Found → Response
@@ -74,9 +69,9 @@ is_steps subject = false
 abbrev pub search_response : List Institution → List Row → Search → Response
 search_response institutions rows search =
     if is_steps search.subject
-    then steps_response (steps_for institutions search.institution rows (page_window search.page))
-    else found_response (found_for institutions search.institution rows (kind_of search.subject)
-    (identifier_of search.subject search.keys) (page_window search.page))
+    then steps_response (steps_for institutions search.institution rows search.page)
+    else found_response (found_for institutions search.institution rows (kind_of search.subject search.after)
+    (identifier_of search.subject search.keys) search.page)
 
 -- ---- counts
 

@@ -3,31 +3,41 @@ ghost use Rattle.std.specs.Prelude.{◌≡◌, IfOk, IfErr, OnOk};
 ghost use Rattle.dq_core.specs.Looking.{Looked};
 ghost use Rattle.dq_core.specs.Showing.{found_for};
 ghost use Rattle.dq_request.specs.Searches.{identifier_of};
-ghost use Rattle.dq_console.specs.Requests.{kind_of, is_steps, page_window, found_response, steps_response, search_response, GoesOn, LooksInPart};
+ghost use Rattle.dq_console.specs.Requests.{kind_of, is_steps, found_response, steps_response, search_response, GoesOn, LooksInPart};
 
 use crate::answer_error::AnswerError;
 use crate::if_memory::IfMemory;
 use dq_core::laws::looks_are_one_look;
-use dq_core::{FoundPage, SearchKind, ShownPage, StepsPage};
+use dq_core::{FoundPage, SearchKind, StepsPage};
 use dq_dataset::DataSet;
 use dq_dimse::status::SUCCESS;
 use dq_list::Listed;
 use dq_match::Found;
-use dq_request::{Cause, Response, Search, ShownPage as Page, Subject};
+use dq_request::{Cause, Response, Search, Subject};
 use dq_tables::Tables;
 use dq_wires::Turner;
-use std::alloc::Global;
+use std::alloc::{AllocError, Global};
 
-/// Among what is searched.
-fn kind_of(subject: Subject) -> SearchKind
-    ensures { result ≡ kind_of subject }
+/// Among what is searched, and after which key.
+fn kind_of(alloc: Global, search: &Search) -> Result<SearchKind, AllocError>
+    ensures { IfOk result (λ kind. kind ≡ kind_of search.now.subject search.now.after) }
 {
-    match subject {
-        Subject::Worklist => SearchKind::Worklist,
-        Subject::StudyImages => SearchKind::StudyImages,
+    match search.subject {
+        Subject::Worklist => Ok(SearchKind::Worklist),
+        Subject::StudyImages => Ok(SearchKind::StudyImages),
         Subject::Studies | Subject::Series | Subject::Images | Subject::Steps => {
-            SearchKind::StudyRoot
+            let after = copy_of(alloc, &search.after)?;
+            Ok(SearchKind::StudyRoot { after })
         }
+    }
+}
+
+fn copy_of(alloc: Global, key: &Option<Listed<u8>>) -> Result<Option<Listed<u8>>, AllocError>
+    ensures { IfOk result (λ copy. copy ≡ key.now) }
+{
+    match key {
+        Some(key) => Ok(Some(Listed::copy_of(alloc, key.as_slice())?)),
+        None => Ok(None),
     }
 }
 
@@ -35,15 +45,6 @@ fn is_steps(subject: Subject) -> bool
     ensures { result ≡ is_steps subject }
 {
     matches!(subject, Subject::Steps)
-}
-
-fn shown(page: Page) -> ShownPage
-    ensures { result ≡ page_window page }
-{
-    ShownPage {
-        offset: page.offset,
-        limit: page.limit,
-    }
 }
 
 /// Returns the answer to a search that found this, and to one of a name that no institution has.
@@ -74,8 +75,8 @@ fn search_by_keys<T: Tables>(
 ) -> Result<Response, AnswerError>
     ensures told { (T.state turner.new.server.tables).honest → IfOk result (λ response. response
         ≡ found_response (found_for turner.old.server.institutions search.now.institution
-        (T.state turner.old.server.tables).rows (kind_of search.now.subject)
-        (identifier_of search.now.subject search.now.keys) (page_window search.now.page))) }
+        (T.state turner.old.server.tables).rows (kind_of search.now.subject search.now.after)
+        (identifier_of search.now.subject search.now.keys) search.now.page)) }
     ensures looked { OnOk result (Looked T.state turner.old.server turner.new.server) }
     ensures hold { turner.new.hold ≡ turner.old.hold }
     ensures fault { GoesOn result (turner.new.fault ≡ turner.old.fault) }
@@ -83,12 +84,13 @@ fn search_by_keys<T: Tables>(
 {
     looks_are_one_look::<T>();
     let keys = search.identifier(alloc)?;
+    let kind = kind_of(alloc, search)?;
     let name = search.institution.as_slice();
     let found = turner.look(&IfMemory(FoundPage {
         name,
-        kind: kind_of(search.subject),
+        kind: &kind,
         keys: &keys,
-        page: shown(search.page),
+        page: search.page,
     }))??;
     Ok(found_response(found))
 }
@@ -113,7 +115,7 @@ pub fn search<T: Tables>(
     }
     let steps = turner.look(&IfMemory(StepsPage {
         name: search.institution.as_slice(),
-        page: shown(search.page),
+        page: search.page,
     }))??;
     Ok(steps_response(steps))
 }

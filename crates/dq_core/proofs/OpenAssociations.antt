@@ -42,9 +42,9 @@ module _ (institutions : List Institution) (name : List ℕ) where
   live-opened number [] e = grind (arith, e)
   live-opened number (d ∷ cs) e = grind (arith, live-opened number cs e)
 
-  pub live-within : (cs : List Connection) → live_of institutions name cs ≤ length cs
-  live-within [] = omega arith
-  live-within (d ∷ cs) = grind (arith, live-within cs)
+  pub live_within : (cs : List Connection) → live_of institutions name cs ≤ length cs
+  live_within [] = omega arith
+  live_within (d ∷ cs) = grind (arith, live_within cs)
 
 -- ---- the counts that are held
 

@@ -34,7 +34,7 @@ use Rattle.dq_core.specs.Shared.{World, answer_by}
 use Rattle.dq_core.specs.Effects.{agreement_after, taken_inputs}
 use Rattle.dq_core.specs.Slots.{associated_institution, StandsAt, IsHeld, IsTaken, Took, verdict_for, owner_with, routed_first, connection_answer, AreAlike}
 use Rattle.dq_core.proofs.Composing.{none_stands}
-use Rattle.dq_core.proofs.isolation.Streams.{AddsInputs, owner-stays}
+use Rattle.dq_core.proofs.isolation.Streams.{AddsInputs, owner_stays}
 use Rattle.dq_core.proofs.Alike.{alike-open, alike-waiting, alike-stranger, alike-unsound, unsound-closes}
 use Rattle.dq_core.proofs.Owning.{Waits, Opens, Further, AreNamed, IsUnsound, no-home, no-inputs_yet, agreed, added, added-is, owner-named, first-owner}
 
@@ -110,7 +110,7 @@ module _ (institutions : List Institution) (laws : Laws institutions) (c : Conne
       let i = some-of (owner institutions c.stream) some in (
         i.0,
         i.1,
-        owner-stays laws.adds institutions c.stream piece i.0 i.1,
+        owner_stays laws.adds institutions c.stream piece i.0 i.1,
         ap (λ (h : Option (List ℕ)). owner_with institutions h pdus) (e ∙ ap (λ (o : Option Institution). associated_institution o (Some a)) i.1)
             ∙ owner-named institutions laws.names (request_in (inputs c.stream)) i.0 i.1,
       )

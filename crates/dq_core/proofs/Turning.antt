@@ -50,7 +50,7 @@ use Rattle.dq_core.proofs.Framing.{Kept, all-kept, unsearched-kept, all-stay, ow
 use Rattle.dq_core.proofs.OpenQueries.{IsFree, Comes, comes, Stays, goes-on}
 use Rattle.dq_core.proofs.Owning.{Waits, no-home, counted-held}
 use Rattle.dq_core.proofs.Slotted.{has_number, Found, found, found-none, left, changed, opened, inserts-last, all-below, none-above, all-left, same-length}
-use Rattle.dq_core.proofs.OpenAssociations.{bit, live-left, live-changed, live-opened, live-within, ended-anywhere, retally}
+use Rattle.dq_core.proofs.OpenAssociations.{bit, live-left, live-changed, live-opened, live_within, ended-anywhere, retally}
 
 -- a slot of a connection that was just opened
 new-held : (institutions : List Institution) (slot : Slot) (number : ℕ) → slot.number ≡ number → InboxAfter [] slot.inbox
@@ -96,7 +96,7 @@ opened-tallied institutions counts cs number t name = t name ∙ sym (live-opene
 module _ (institutions : List Institution) (rows : List Row) (held : Connections) (cs : List Connection) (h : AreHeld institutions rows held cs) where
   pub few : length held.places.entries < 2 ^ 63 → (name : List ℕ) → tally_of_name institutions held.tally.counts.items name < 18446744073709551615
   few small name =
-      omega (arith, small, same-length institutions rows held.additions.logs.items held.slots held.places.entries cs h.at, live-within institutions name cs, h.tallied name)
+      omega (arith, small, same-length institutions rows held.additions.logs.items held.slots held.places.entries cs h.at, live_within institutions name cs, h.tallied name)
 
   -- what is left of the counts without a connection
   pub left-count : Waits → (number : ℕ) (slot : Slot) (c : Connection) → connection_in number cs ≡ Some c → IsHeld institutions slot c → (name : List ℕ)

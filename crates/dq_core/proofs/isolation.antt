@@ -1,4 +1,5 @@
 -- The plain server and its laws: isolation, and what it rests on. It speaks of the definitions alone.
+pub mod Vocabulary
 pub mod AnswerLaws
 pub mod Streams
 pub mod Lists

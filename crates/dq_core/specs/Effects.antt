@@ -1,6 +1,5 @@
 -- The effects of the server's parts on tables, and what they leave at a fault. This is for the prover.
 use Rattle.std.specs.Prelude.{◌≡◌, ℕ, ◌⊎◌, if◌then◌else◌, List, [], ◌∷◌, ◌++◌, Result, IfOk, OnOk, OnErr, Option, None, Some}
-use Rattle.dq_dataset.specs.Tree.{ElementList}
 use Rattle.dq_dimse.specs.Received.{Message}
 use Rattle.dq_assoc.specs.declared.agreement.Agreement.{Agreement}
 use Rattle.dq_assoc.specs.declared.association.Verdict.{Verdict}
@@ -20,7 +19,7 @@ use Rattle.dq_tables.specs.TableStates.{State as Kept}
 use Rattle.dq_core.specs.declared.event.Reply.{Reply}
 use Rattle.dq_core.specs.declared.fault.Fault.{Fault}
 use Rattle.dq_core.specs.declared.fault.Fault.TheVariants.{NoMemory, Store}
-use Rattle.dq_core.specs.declared.answers.MessageOutcome.{MessageOutcome}
+use Rattle.dq_core.specs.declared.answers.OperationOutcome.{OperationOutcome}
 use Rattle.dq_core.specs.Queries.{outcome_found}
 use Rattle.dq_core.specs.Services.{ConsoleOrder}
 use Rattle.dq_core.specs.Pages.{OpenQuery, reaction}
@@ -42,13 +41,12 @@ abbrev pub AnswerPartlyApplied : Option Institution → Answer → List Row → 
 AnswerPartlyApplied institution answer before after IsLeft =
     IsPartOf (operations_by institution answer.changes) before after IsLeft
 
--- An outcome is given, with the identifier of a C-FIND or none, and its edits are made; or there is a fault, and no
--- edit is made.
+-- An outcome is given, and its edits are made; or there is a fault, and no edit is made.
 pub record Operates (old new : Kept) (institution : List ℕ)
-    (does : List Record → Found × List Edit) (result : Result (MessageOutcome × Option ElementList) Fault) : Type 0 where
+    (does : List Record → Found × List Edit) (result : Result OperationOutcome Fault) : Type 0 where
   pub goes : HealthAfter old new result
   pub answered : new.honest → IfOk result (λ given.
-      outcome_found (of institution new.rows) given.0 ≡ (does (of institution old.rows)).0)
+      outcome_found (of institution new.rows) given.outcome ≡ (does (of institution old.rows)).0)
   pub done : new.honest → OnOk result (
       new.rows ≡ after (by institution (does (of institution old.rows)).1) old.rows)
   pub same : new.honest → OnErr result (new.rows ≡ old.rows)

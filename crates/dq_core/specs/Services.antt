@@ -6,9 +6,11 @@ use Rattle.dq_dataset.specs.Tree.{ElementList}
 use Rattle.dq_dataset.specs.Canonical.{canonical}
 use Rattle.dq_dimse.specs.declared.command.Command.{Command}
 use Rattle.dq_dimse.specs.Received.{Message}
+use Rattle.dq_dimse.specs.Receiving.{identifier_in}
 use Rattle.dq_dimse.specs.CommandFields.{c_cancel, c_echo, c_find, c_store, n_create, n_set, response_bit}
 use Rattle.dq_dimse.specs.Statuses.{success, cancel, pending_with_optional_keys, pending_without_optional_keys, sop_class_not_supported, unrecognized_operation}
 use Rattle.std.specs.Option.{option_map_or}
+use Rattle.std.specs.Result.{result_ok}
 use Rattle.std.specs.Str.{bytes_eq}
 use Rattle.dq_assoc.specs.declared.agreement.AcceptedContext.{AcceptedContext}
 use Rattle.dq_assoc.specs.declared.agreement.Agreement.{Agreement}
@@ -166,6 +168,17 @@ outcome_of (Some operation) false called syntax limits message records =
 outcome_of (Some operation) true called syntax limits message records =
     operation_outcome operation called syntax limits message records
 
+-- the identifier that an operation reads: that of a C-FIND, where it can be read (PS3.7 section 9.1.2.1)
+abbrev pub identifier_of : DimseOperation → Syntax → Message → Option ElementList
+identifier_of FindStudies syntax message = result_ok (identifier_in message syntax)
+identifier_of FindEntries syntax message = result_ok (identifier_in message syntax)
+identifier_of operation syntax message = None
+
+-- and of a message that may be refused before
+abbrev pub identifier_unless_refused : Option DimseOperation → Bool → Syntax → Message → Option ElementList
+identifier_unless_refused (Some operation) true syntax message = identifier_of operation syntax message
+identifier_unless_refused operation is_its_class syntax message = None
+
 -- the outcome of a message on a context that was accepted
 abbrev pub message_outcome : Agreement → AcceptedContext → Limits → Message → List Record
     → Found × List Edit
@@ -173,6 +186,12 @@ message_outcome agreement context limits message =
     outcome_of (operation_named (service_of context.class) message.command.code)
     (bytes_eq message.command.sop_class (uid_of context.class))
     agreement.called context.syntax limits message
+
+-- the identifier of a message on such a context
+abbrev pub identifier_on : AcceptedContext → Message → Option ElementList
+identifier_on context message =
+    identifier_unless_refused (operation_named (service_of context.class) message.command.code)
+    (bytes_eq message.command.sop_class (uid_of context.class)) context.syntax message
 
 -- the responses of an outcome, and its edits
 abbrev pub served_by : AcceptedContext → Command → Found × List Edit → Served

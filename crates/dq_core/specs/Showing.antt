@@ -1,11 +1,13 @@
 -- The data that an institution is shown of its records: what keys find among them, and its performed procedure steps, a
 -- page at a time.
-use Rattle.std.specs.Prelude.{ℕ, min, List, [], map, take, drop, Option}
+use Rattle.std.specs.Prelude.{ℕ, List, [], map, Option}
 use Rattle.std.specs.Option.{option_map}
 use Rattle.dq_config.specs.declared.config.Institution.{Institution}
 use Rattle.dq_config.specs.Routing.{institution_named}
 use Rattle.dq_dataset.specs.Tree.{ElementList}
 use Rattle.dq_match.specs.declared.responses.Found.{Found}
+use Rattle.dq_match.specs.declared.shown_page.ShownPage.{ShownPage}
+use Rattle.dq_match.specs.ShownPages.{shown_page, found_page}
 use Rattle.dq_find.specs.Queries as study
 use Rattle.dq_find.specs.StudyImages.{study_outcome}
 use Rattle.dq_worklist.specs.Queries as worklist
@@ -16,30 +18,14 @@ use Rattle.dq_tables.specs.Lookups.{records_of}
 use Rattle.dq_tables.specs.Records.{data_set_of}
 use Rattle.dq_core.specs.declared.showing.SearchKind.{SearchKind}
 use Rattle.dq_core.specs.declared.showing.SearchKind.TheVariants.{StudyRoot, StudyImages, Worklist}
-use Rattle.dq_core.specs.declared.showing.ShownPage.{ShownPage}
 
--- the most that a page shows
-abbrev pub page_most : ℕ
-page_most = 1000
-
--- what comes after so many, and of that at most so many
-abbrev pub shown_page : {A : Type 0} → ShownPage → List A → List A
-shown_page page all = take (min page.limit page_most) (drop page.offset all)
-
--- The result of a search by keys, as in a C-FIND (PS3.4 sections C.4.1 and K.4.1), or over all series of a study (PS3.18
--- section 10.6.1). Nobody called a title, so the answers of Study Root show an empty one.
+-- The result of a search by keys, as in a C-FIND (PS3.4 sections C.4.1 and K.4.1), in Study Root of the records behind a
+-- unique key if there is one, or over all series of a study (PS3.18 section 10.6.1). Nobody called a title, so the answers
+-- of Study Root show an empty one.
 unfoldable pub found_in : SearchKind → ElementList → List Record → Found
-found_in StudyRoot keys records = study.keys_outcome records [] keys
+found_in (StudyRoot after) keys records = study.keys_outcome_after after records [] keys
 found_in StudyImages keys records = study_outcome records keys
 found_in Worklist keys records = worklist.keys_outcome records keys
-
--- a page of what was found; a refusal has no answers
-abbrev pub found_page : ShownPage → Found → Found
-found_page page found = record {
-  status = found.status;
-  optional = found.optional;
-  answers = shown_page page found.answers;
-}
 
 -- the performed procedure steps, in the order of their keys
 unfoldable pub steps_in : List Record → List ElementList

@@ -1,12 +1,20 @@
 -- The conditions that keep sound rows sound: the server is sent octets, and each row holds a data set.
-use Rattle.std.specs.Prelude.{◌≡◌, true, List}
+use Rattle.std.specs.Prelude.{◌≡◌, ℕ, true, List}
 use Rattle.std.specs.List.{AllByRecursion}
 use Rattle.dq_list.specs.Octets.{AreOctets}
 use Rattle.dq_dataset.specs.Facts.{IsDataSet}
+use Rattle.dq_dataset.specs.declared.header.Syntax.{Syntax}
+use Rattle.dq_dimse.specs.Received.{Message}
+use Rattle.dq_config.specs.Limits.{Limits}
 use Rattle.dq_tables.specs.declared.row.Row.{Row}
 use Rattle.dq_tables.specs.Records.{data_set_of}
+use Rattle.dq_tables.specs.Rows.{of, by, after}
 use Rattle.dq_tables.specs.Sound.{IsSound}
+use Rattle.dq_store.specs.CStore.{store_outcome}
 use Rattle.dq_store.specs.Levels.{is_of_its_level}
+use Rattle.dq_worklist.specs.Orders.{schedule_outcome, withdrawn}
+use Rattle.dq_mpps.specs.NCreate.{create_outcome}
+use Rattle.dq_mpps.specs.NSet.{set_outcome}
 use Rattle.dq_core.specs.declared.event.Event.{Event}
 use Rattle.dq_core.specs.declared.event.Event.TheVariants as event
 use Rattle.dq_core.specs.Services.{ConsoleOrder, Scheduling, Withdrawal}
@@ -28,6 +36,23 @@ KeepToLevels rows = AllByRecursion (λ (row : Row). is_of_its_level row ≡ true
 pub record AreMade (rows : List Row) : Type 0 where
   pub sound : HoldSound rows
   pub levels : KeepToLevels rows
+
+-- Each service that changes rows leaves them good where they were good, whatever octets it is sent.
+pub record ServicesKeep (Good : List Row → Type 0) : Type 0 where
+  pub storing : (name : List ℕ) (limits : Limits) (rows : List Row) (message : Message) (syntax : Syntax)
+      → AreOctets message.octets → Good rows
+      → Good (after (by name (store_outcome limits (of name rows) message syntax).1) rows)
+  pub creating : (name : List ℕ) (limits : Limits) (rows : List Row) (message : Message) (syntax : Syntax)
+      → AreOctets message.octets → Good rows
+      → Good (after (by name (create_outcome limits (of name rows) message syntax).1) rows)
+  pub changing : (name : List ℕ) (rows : List Row) (message : Message) (syntax : Syntax)
+      → AreOctets message.octets → Good rows
+      → Good (after (by name (set_outcome (of name rows) message syntax).1) rows)
+  pub scheduling : (name : List ℕ) (limits : Limits) (rows : List Row) (octets : List ℕ)
+      → AreOctets octets → Good rows
+      → Good (after (by name (schedule_outcome limits (of name rows) octets).1) rows)
+  pub withdrawing : (name : List ℕ) (rows : List Row) (id : List ℕ) → Good rows
+      → Good (after (by name (withdrawn (of name rows) id).1) rows)
 
 -- what an order holds
 abbrev pub HoldsOctets : ConsoleOrder → Type 0

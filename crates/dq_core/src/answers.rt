@@ -1,12 +1,13 @@
 //! The outcome of a message, and the answers to a query that were not sent.
-ghost use Rattle.std.specs.Prelude.{◌≡◌, ◌∷◌, [], length, IfOk, OnOk, MatchOption};
+ghost use Rattle.std.specs.Prelude.{◌≡◌, ◌∷◌, [], length, None, IfOk, OnOk, MatchOption};
 ghost use Rattle.dq_dataset.specs.Canonical.{canonical};
 ghost use Rattle.dq_dataset.specs.Tree.{ElementList};
+ghost use Rattle.dq_core.specs.declared.answers.MessageOutcome.TheVariants as outcome;
 ghost use Rattle.dq_core.specs.Queries.{at_hand, status_of, optional_of, Brings, Gives};
 
 use crate::answer_queue::{AnswerQueue, answer_octets};
 use dq_archive::Past;
-use dq_dataset::Syntax;
+use dq_dataset::{DataSet, Syntax};
 use dq_dimse::status::SUCCESS;
 use dq_find::LazyAnswers;
 use dq_tables::{TableFault, Tables};
@@ -25,6 +26,26 @@ pub(crate) enum Answers {
 pub(crate) enum MessageOutcome {
     Status(u16),
     Answers(Answers),
+}
+
+/// What an operation gives: the outcome of its message, and the identifier that a C-FIND read, which
+/// tells the log what was asked.
+#[derive(Drop)]
+pub(crate) struct OperationOutcome {
+    pub outcome: MessageOutcome,
+    pub identifier: Option<DataSet>,
+}
+
+impl OperationOutcome {
+    /// A status, of a message of which no identifier was read.
+    pub(crate) fn of_status(status: u16) -> Self
+        ensures { (result.outcome ≡ outcome.Status status) × (result.identifier ≡ None) }
+    {
+        OperationOutcome {
+            outcome: MessageOutcome::Status(status),
+            identifier: None,
+        }
+    }
 }
 
 impl Answers {

@@ -26,7 +26,6 @@ ghost use Rattle.dq_assoc.specs.declared.association.State.TheVariants.{Waiting,
 ghost use Rattle.dq_assoc.specs.Table.{Requested, line};
 ghost use Rattle.dq_core.specs.Isolation.{own_among, replies_alone, world_alone, own_replies, own_rows_within, stranger_replies, Begins, Agree, IsPrefix};
 ghost use Rattle.dq_core.specs.Renumbering.{KeepsOrder, with_other_number, renumbered_reply, AgreeButForNumbers};
-ghost use Rattle.dq_dataset.specs.declared.header.Syntax.{Syntax};
 ghost use Rattle.dq_dataset.specs.Tree.{ElementList};
 ghost use Rattle.dq_dimse.specs.CommandFields.{c_find};
 ghost use Rattle.dq_dimse.specs.Received.{Message};
@@ -39,24 +38,20 @@ ghost use Rattle.dq_find.specs.declared.query.Query.{Query};
 ghost use Rattle.dq_find.specs.Queries as study;
 ghost use Rattle.dq_worklist.specs.Queries as worklist;
 ghost use Rattle.dq_core.specs.Services.{ConsoleOrder, message_outcome, service_of_message, console_outcome};
-ghost use Rattle.dq_core.specs.Soundness.{HoldSound, AreMade, HoldsOctets, BringsOctets, BringOctets, CameAsOctets};
+ghost use Rattle.dq_core.specs.Soundness.{HoldSound, AreMade, ServicesKeep, HoldsOctets, BringsOctets, BringOctets, CameAsOctets};
 ghost use Rattle.dq_core.specs.Stores.{IsToldTruly, IsToldTrulyAt};
 ghost use Rattle.dq_core.specs.Conversations.{Arrival, arrivals, IsAnswered, IsAnsweredRun, IsAnsweredAt, conversation_on, exchange, AreFinished, without_page_requests};
 ghost use Rattle.dq_core.specs.declared.event.Reply.TheVariants.{Octets, Done, Ignored};
 ghost use Rattle.dq_core.specs.Examples as example;
 ghost use Rattle.dq_config.specs.Document.{built_in};
-ghost use Rattle.dq_worklist.specs.Orders.{schedule_outcome, withdrawn};
-ghost use Rattle.dq_mpps.specs.NCreate.{create_outcome};
-ghost use Rattle.dq_mpps.specs.NSet.{set_outcome};
-ghost use Rattle.dq_store.specs.CStore.{store_outcome};
 ghost use Rattle.dq_tables.specs.Sound.{IsSound};
 ghost use Rattle.dq_tables.specs.TableStates.{IsSettled};
 ghost use Rattle.dq_core.specs.Shared.{World};
 ghost use Rattle.dq_core.specs.ServerView.{ServerView};
 ghost use Rattle.dq_core.specs.Looking.{Looked};
+ghost use Rattle.dq_match.specs.declared.shown_page.ShownPage.{ShownPage};
 ghost use Rattle.dq_core.specs.Showing.{found_for, steps_for};
 ghost use Rattle.dq_core.specs.declared.showing.SearchKind.{SearchKind};
-ghost use Rattle.dq_core.specs.declared.showing.ShownPage.{ShownPage};
 ghost use Rattle.dq_core.specs.Restarts.{IsRestart};
 
 use crate::event::Event;
@@ -87,6 +82,7 @@ use std::alloc::Global;
 
 /// The replies to a history are the replies to each event in turn: there is one for each event, and
 /// what comes later does not change it.
+#[tactic(auto, using(crate::proofs::Running::replies_follow, crate::proofs::Running::replies_count))]
 pub fn replies_in_turn()
     ensures one_each { (institutions : List Institution) (rows : List Row) (events : List Event) →
         length (replies institutions rows events) ≡ length events }
@@ -99,6 +95,7 @@ pub fn replies_in_turn()
 /// However a stream is cut, it is answered alike: a piece that comes in two parts is answered as
 /// the first part and then, unless that closed the connection, as the second, from the records that
 /// are there and the C-FIND that is open by then.
+#[tactic(auto, using(crate::proofs::isolation::Streams::piece_in_two))]
 pub fn pieces_join()
     ensures { (limits : Limits) (verdict : Verdict) (records : List Record)
         (c : Connection) (first second : List ℕ) →
@@ -112,6 +109,7 @@ pub fn pieces_join()
 }
 
 /// Whether an institution is busy is asked for the request alone.
+#[tactic(auto, using(crate::proofs::isolation::Streams::piece_verdict))]
 pub fn verdict_is_of_the_request()
     ensures { (limits : Limits) (verdict other : Verdict) (records : List Record)
         (c : Connection) (piece : List ℕ) (request : Request) →
@@ -121,6 +119,7 @@ pub fn verdict_is_of_the_request()
 {}
 
 /// Once a stream has an owner, it stays.
+#[tactic(auto, using(crate::proofs::isolation::Streams::owner_stays))]
 pub fn owners_stay()
     ensures { (institutions : List Institution) (stream more : List ℕ) (i : Institution) →
         owner institutions stream ≡ Some i → owner institutions (stream ++ more) ≡ Some i }
@@ -137,6 +136,7 @@ pub fn institutions_have_own_names()
 }
 
 /// Opened numbers rise strictly in a well-formed history.
+#[tactic(auto, using(crate::proofs::isolation::Rising::well_formed_increasing))]
 pub fn opened_numbers_rise()
     ensures { (events : List Event) →
         IsTrue (is_well_formed_history events) ↔ IsStrictlyIncreasing (opened_numbers events) }
@@ -144,6 +144,7 @@ pub fn opened_numbers_rise()
 
 /// A connection that is held has sent no request yet, or one that was accepted, which an
 /// institution has; so one that has an owner was accepted.
+#[tactic(auto, using(crate::proofs::isolation::Accepting::held_open, crate::proofs::isolation::Accepting::request_accepted))]
 pub fn held_connections_were_accepted()
     ensures inputs { (institutions : List Institution) (rows : List Row) (events : List Event)
         (number : ℕ) (c : Connection) →
@@ -161,6 +162,7 @@ pub fn held_connections_were_accepted()
 }
 
 /// No institution has more associations open than its limit.
+#[tactic(auto, using(crate::proofs::isolation::Living::live_within))]
 pub fn limits_of_associations_are_kept()
     ensures { (institutions : List Institution) (rows : List Row) (events : List Event)
         (i : Institution) → HaveOwnNames institutions → Contains institutions i →
@@ -174,6 +176,7 @@ pub fn limits_of_associations_are_kept()
 /// replies at an institution's own events are those of a server that it has alone, and so are its
 /// records: after the history, and within it, also after the first operations of an event. That
 /// server is the same one, configured with the institution alone.
+#[tactic(auto, using(crate::proofs::isolation::Isolating::lenses_from, crate::proofs::isolation::Single::single_replies, crate::proofs::isolation::Single::single_records, crate::proofs::isolation::Single::single_among, crate::proofs::isolation::Single::single_within))]
 pub fn institutions_are_isolated()
     ensures replies { (institutions : List Institution) (rows : List Row) (events : List Event)
         (i : Institution) → Begins institutions rows events i →
@@ -209,6 +212,7 @@ pub fn institutions_are_isolated()
 /// The server of one institution as a definition of its own, which has no names and no routes, and to
 /// which each request is the institution's. It answers own events in the same way, and leaves the
 /// same records: after the history, and within it. So it is whatever the numbers of connections are.
+#[tactic(auto, using(crate::proofs::isolation::Isolating::lenses_from, crate::proofs::isolation::Promise::isolated_among, crate::proofs::isolation::Promise::isolated_records, crate::proofs::isolation::Promise::isolated_within))]
 pub fn institutions_are_answered_by_records()
     ensures first_replies { (institutions : List Institution) (rows : List Row)
         (events : List Event) (i : Institution) (answered : ℕ) →
@@ -244,6 +248,7 @@ pub fn institutions_are_answered_by_records()
 }
 
 /// The replies on a connection that nobody owns are those of a server without institutions.
+#[tactic(auto, using(crate::proofs::isolation::Strangers::strange_replies, crate::proofs::isolation::Strangers::strange_among))]
 pub fn strangers_are_answered_alike()
     ensures replies { (institutions : List Institution) (rows : List Row) (events : List Event)
         (number : ℕ) → owner institutions (stream_of number events) ≡ None →
@@ -263,6 +268,7 @@ pub fn strangers_are_answered_alike()
 /// Two histories that agree for an institution have the same replies at its own events, and leave
 /// it the same records. Of the replies at its own events among the first of each history, one list
 /// begins with the other.
+#[tactic(auto, using(crate::proofs::isolation::Isolating::lenses_from, crate::proofs::isolation::Promise::agreeing_replies, crate::proofs::isolation::Promise::agreeing_records))]
 pub fn agreeing_histories_are_answered_alike()
     ensures replies { (institutions others : List Institution) (rows other_rows : List Row)
         (events other_events : List Event) (i j : Institution) →
@@ -489,20 +495,7 @@ pub fn a_restart_finds_what_was_answered<T: Tables + Drop>(
 /// Each service keeps rows sound that are sound and hold data sets, whatever octets it is sent, and
 /// they hold data sets then, too.
 pub fn services_keep_rows_sound()
-    ensures storing { (name : List ℕ) (limits : Limits) (rows : List Row) (message : Message)
-        (syntax : Syntax) → AreOctets message.octets → HoldSound rows →
-        HoldSound (after (by name (store_outcome limits (of name rows) message syntax).1) rows) }
-    ensures creating { (name : List ℕ) (limits : Limits) (rows : List Row) (message : Message)
-        (syntax : Syntax) → AreOctets message.octets → HoldSound rows →
-        HoldSound (after (by name (create_outcome limits (of name rows) message syntax).1) rows) }
-    ensures changing { (name : List ℕ) (rows : List Row) (message : Message)
-        (syntax : Syntax) → AreOctets message.octets → HoldSound rows →
-        HoldSound (after (by name (set_outcome (of name rows) message syntax).1) rows) }
-    ensures scheduling { (name : List ℕ) (limits : Limits) (rows : List Row) (octets : List ℕ) →
-        AreOctets octets → HoldSound rows →
-        HoldSound (after (by name (schedule_outcome limits (of name rows) octets).1) rows) }
-    ensures withdrawing { (name : List ℕ) (rows : List Row) (id : List ℕ) → HoldSound rows →
-        HoldSound (after (by name (withdrawn (of name rows) id).1) rows) }
+    ensures { ServicesKeep HoldSound }
 {
     stored_rows_stay_sound();
     stored_rows_hold_data_sets();
@@ -553,20 +546,7 @@ pub fn rows_stay_sound()
 /// data sets, and in each record of a study, of a series and of an image attributes of its own level
 /// alone.
 pub fn services_keep_rows_as_made()
-    ensures storing { (name : List ℕ) (limits : Limits) (rows : List Row) (message : Message)
-        (syntax : Syntax) → AreOctets message.octets → AreMade rows →
-        AreMade (after (by name (store_outcome limits (of name rows) message syntax).1) rows) }
-    ensures creating { (name : List ℕ) (limits : Limits) (rows : List Row) (message : Message)
-        (syntax : Syntax) → AreOctets message.octets → AreMade rows →
-        AreMade (after (by name (create_outcome limits (of name rows) message syntax).1) rows) }
-    ensures changing { (name : List ℕ) (rows : List Row) (message : Message)
-        (syntax : Syntax) → AreOctets message.octets → AreMade rows →
-        AreMade (after (by name (set_outcome (of name rows) message syntax).1) rows) }
-    ensures scheduling { (name : List ℕ) (limits : Limits) (rows : List Row) (octets : List ℕ) →
-        AreOctets octets → AreMade rows →
-        AreMade (after (by name (schedule_outcome limits (of name rows) octets).1) rows) }
-    ensures withdrawing { (name : List ℕ) (rows : List Row) (id : List ℕ) → AreMade rows →
-        AreMade (after (by name (withdrawn (of name rows) id).1) rows) }
+    ensures { ServicesKeep AreMade }
 {
     services_keep_rows_sound();
     records_keep_to_their_levels();
@@ -654,6 +634,7 @@ pub fn associations_are_answered_in_full()
 /// Pulls only cut the responses to a C-FIND into pages. Take the arrivals on an association twice,
 /// with other pulls and no other difference. Where each search is finished in both, by enough pulls
 /// or by another message, the same is sent, octet for octet, and it closes in the same place.
+#[tactic(auto, using(crate::proofs::isolation::Finishing::cut_alike))]
 pub fn pulls_cut_answers_into_pages()
     ensures { (i : Institution) (agreement : Agreement) (arrivals others : List Arrival) →
         AreFinished i agreement arrivals → AreFinished i agreement others →

@@ -25,5 +25,5 @@ pub use event::{Event, Reply};
 pub use fault::Fault;
 pub use notes::{LogEvent, Note, Notes, QuerySummary, Titles};
 pub use server::{Outcome, Server, run, well_formed};
-pub use showing::{SearchKind, ShownPage};
+pub use showing::SearchKind;
 pub use table_inspection::{FoundPage, RowCount, StepsPage, TableInspection};

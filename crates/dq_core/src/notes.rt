@@ -1,6 +1,6 @@
 //! Notes of what is served, for a log. Of a data set they hold nothing but the tags of a query's keys,
 //! and what it asks of the modality, the station and the day.
-ghost use Rattle.std.specs.Prelude.{◌≡◌, ◌&&◌, [], true, take, IfOk};
+ghost use Rattle.std.specs.Prelude.{◌≡◌, ◌&&◌, [], true, take, option_map, IfOk, IfSome};
 ghost use Rattle.std.specs.Str.{bytes_eq};
 ghost use Rattle.std.specs.Option.{option_copied};
 ghost use Rattle.dq_value.specs.Title.{without_spaces};
@@ -208,13 +208,17 @@ impl EventNotes {
         }
     }
 
-    /// Returns what is to be noted of a message of a service, once its last response is sent.
-    /// Returns `None` if nothing is noted, or if there is no memory for it.
+    /// Returns what is to be noted of a message of a service, once its last response is sent: what
+    /// the identifier of a C-FIND asks for, none of which is answered yet. Returns `None` if nothing
+    /// is noted, or if there is no memory for it.
     pub(crate) fn begin(
         &mut self,
         service: Service,
         identifier: Option<DataSet>,
-    ) -> Option<ServedNote> {
+    ) -> Option<ServedNote>
+        ensures { IfSome result (λ note. (note.service ≡ service) × (note.answers ≡ 0)
+            × (option_map values_asked note.query ≡ option_map (asked_by service) identifier)) }
+    {
         if !self.is_kept {
             return None;
         }

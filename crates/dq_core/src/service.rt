@@ -7,7 +7,7 @@ ghost use Rattle.dq_assoc.specs.Holding.{accepted_by};
 ghost use Rattle.dq_config.specs.Limits.{limits_of};
 ghost use Rattle.dq_tables.specs.Rows.{Record, of};
 ghost use Rattle.dq_find.specs.LazyAnswers.{found_then};
-ghost use Rattle.dq_core.specs.Services.{command_field_of, operation_outcome, message_outcome};
+ghost use Rattle.dq_core.specs.Services.{command_field_of, operation_outcome, message_outcome, identifier_of, identifier_on};
 ghost use Rattle.dq_core.specs.Stepping.{HealthAfter, MayLeaveAfter};
 ghost use Rattle.dq_tables.specs.TableStates.{Reads};
 ghost use Rattle.dq_core.specs.Pages.{rest, page};
@@ -18,7 +18,7 @@ ghost use Rattle.dq_core.specs.Queries.{outcome_found, open_query_of, records_si
 ghost use Rattle.dq_core.specs.Slots.{IsTaken};
 
 use crate::answer_queue::AnswerQueue;
-use crate::answers::{Answers, MessageOutcome};
+use crate::answers::{Answers, MessageOutcome, OperationOutcome};
 use crate::dimse_operation::DimseOperation;
 use crate::fault::Fault;
 use crate::notes::EventNotes;
@@ -27,7 +27,7 @@ use crate::slot::Taken;
 use dq_archive::{Addition, Past};
 use dq_assoc::{AcceptedContext, Agreement};
 use dq_config::Institution;
-use dq_dataset::{DataSet, Syntax};
+use dq_dataset::Syntax;
 use dq_dimse::{Message, command_field, status};
 use dq_find::{LazyAnswers, begin_find};
 use dq_list::Listed;
@@ -89,7 +89,7 @@ impl<'a> Provider<'a> {
     }
 
     /// Makes the edits of an operation, and answers it. Each operation has its place here. Gives back
-    /// the identifier of a C-FIND too, if it can be read.
+    /// the identifier of a C-FIND too, where it can be read.
     fn perform<T: Tables>(
         self,
         operation: DimseOperation,
@@ -97,12 +97,14 @@ impl<'a> Provider<'a> {
         syntax: Syntax,
         tables: &mut T,
         log: &mut Listed<Addition>,
-    ) -> Result<(MessageOutcome, Option<DataSet>), Fault>
+    ) -> Result<OperationOutcome, Fault>
         requires { command_field_of operation ≡ message.now.command.code }
         ensures serves { (sent : Received) → Refines syntax message.now sent →
             Operates (T.state tables.old) (T.state tables.new) self.entry.institution.now.name
             (operation_outcome operation self.entry.agreement.now.called syntax
             (limits_of self.entry.institution.now) sent) result }
+        ensures identifier { IfOk result (λ given. given.identifier
+            ≡ identifier_of operation syntax (plain_message message.now)) }
         ensures told { (T.state tables.new).honest → OnOk result
             (IsTold self.entry.institution.now.name (T.state tables.old).rows
             (T.state tables.new).rows log.old log.new) }
@@ -115,15 +117,18 @@ impl<'a> Provider<'a> {
             agreement,
         } = self;
         match operation {
-            DimseOperation::Echo => Ok((MessageOutcome::Status(status::SUCCESS), None)),
+            DimseOperation::Echo => Ok(OperationOutcome::of_status(status::SUCCESS)),
             DimseOperation::Store => {
                 let status = store_telling(tables, institution, message, syntax, log)?;
-                Ok((MessageOutcome::Status(status), None))
+                Ok(OperationOutcome::of_status(status))
             }
             DimseOperation::FindStudies => {
                 let called = &agreement.called;
                 let (asked, identifier) = begin_find(tables, institution, called, message, syntax)?;
-                Ok((lazy_or_refused(asked), identifier))
+                Ok(OperationOutcome {
+                    outcome: lazy_or_refused(asked),
+                    identifier,
+                })
             }
             DimseOperation::FindEntries => {
                 let (found, identifier) = query_with_identifier(
@@ -132,15 +137,18 @@ impl<'a> Provider<'a> {
                     message,
                     syntax,
                 )?;
-                Ok((all_found(tables.alloc(), found), identifier))
+                Ok(OperationOutcome {
+                    outcome: all_found(tables.alloc(), found),
+                    identifier,
+                })
             }
             DimseOperation::CreateStep => {
                 let status = create(tables, institution, message, syntax)?;
-                Ok((MessageOutcome::Status(status), None))
+                Ok(OperationOutcome::of_status(status))
             }
             DimseOperation::SetStep => {
                 let status = set(tables, institution, message, syntax)?;
-                Ok((MessageOutcome::Status(status), None))
+                Ok(OperationOutcome::of_status(status))
             }
         }
     }
@@ -153,11 +161,13 @@ impl<'a> Provider<'a> {
         message: &Message,
         tables: &mut T,
         log: &mut Listed<Addition>,
-    ) -> Result<(MessageOutcome, Option<DataSet>), Fault>
+    ) -> Result<OperationOutcome, Fault>
         ensures serves { (sent : Received) → Refines context.syntax message.now sent →
             Operates (T.state tables.old) (T.state tables.new) self.entry.institution.now.name
             (message_outcome self.entry.agreement.now context
             (limits_of self.entry.institution.now) sent) result }
+        ensures identifier { IfOk result (λ given. given.identifier
+            ≡ identifier_on context (plain_message message.now)) }
         ensures told { (T.state tables.new).honest → OnOk result
             (IsTold self.entry.institution.now.name (T.state tables.old).rows
             (T.state tables.new).rows log.old log.new) }
@@ -166,13 +176,10 @@ impl<'a> Provider<'a> {
     {
         let command = &message.command;
         let Some(operation) = DimseOperation::of(context.class.service(), command.code) else {
-            return Ok((MessageOutcome::Status(status::UNRECOGNIZED_OPERATION), None));
+            return Ok(OperationOutcome::of_status(status::UNRECOGNIZED_OPERATION));
         };
         if command.sop_class.as_slice() != context.class.uid() {
-            return Ok((
-                MessageOutcome::Status(status::SOP_CLASS_NOT_SUPPORTED),
-                None,
-            ));
+            return Ok(OperationOutcome::of_status(status::SOP_CLASS_NOT_SUPPORTED));
         }
         self.perform(operation, message, context.syntax, tables, log)
     }
@@ -222,7 +229,10 @@ impl<'a> Provider<'a> {
                 query: None,
             });
         }
-        let (outcome, identifier) = self.outcome(context, &message, tables, log)?;
+        let OperationOutcome {
+            outcome,
+            identifier,
+        } = self.outcome(context, &message, tables, log)?;
         let note = notes.begin(context.class.service(), identifier);
         let limit = self.agreement.limit;
         let mut octets = octets;

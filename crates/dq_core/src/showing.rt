@@ -1,47 +1,40 @@
 //! The data that an institution is shown of what it keeps, a page at a time.
-ghost use Rattle.std.specs.Prelude.{◌≡◌, List, map, min, IfOk};
+ghost use Rattle.std.specs.Prelude.{◌≡◌, List, map, option_copied, IfOk};
 ghost use Rattle.dq_tables.specs.TableStates.{Reads};
 ghost use Rattle.dq_tables.specs.Records.{data_set_of};
 ghost use Rattle.dq_tables.specs.Rows.{of};
 ghost use Rattle.dq_tables.specs.declared.row.Row.{Row as TheRow};
-ghost use Rattle.dq_core.specs.Showing.{found_in, page_most, steps_in, shown_page, found_page};
+ghost use Rattle.dq_match.specs.ShownPages.{shown_page, found_page};
+ghost use Rattle.dq_core.specs.Showing.{found_in, steps_in};
 
 use dq_config::Institution;
 use dq_dataset::DataSet;
 use dq_find::{find_by_keys, find_in_study};
 use dq_list::Listed;
-use dq_match::Found;
+use dq_match::{Found, ShownPage};
 use dq_tables::{Kind, Row, TableFault, Tables};
 use dq_worklist::query_by_keys;
 use std::alloc::{AllocError, Global};
 
-/// The most that a page shows.
-const PAGE_MOST: usize = 1000;
-
 /// Among what keys are searched.
-#[derive(Debug, Clone, Copy, PartialEq, Eq)]
+#[derive(Debug, Drop)]
 pub enum SearchKind {
-    /// Studies, series or images, by the Query/Retrieve Level of the keys (PS3.4 annex C).
-    StudyRoot,
+    /// Studies, series or images, by the Query/Retrieve Level of the keys (PS3.4 annex C): all, or those whose
+    /// unique keys come behind this one in the order of octets.
+    StudyRoot { after: Option<Listed<u8>> },
     /// Images of all series of a study (PS3.18 section 10.6.1).
     StudyImages,
     /// Entries of the worklist that wait (PS3.4 annex K).
     Worklist,
 }
 
-/// A page: what comes after so many, and of that no more than the limit, nor than 1,000.
-#[derive(Debug, Clone, Copy, PartialEq, Eq)]
-pub struct ShownPage {
-    pub offset: usize,
-    pub limit: usize,
-}
-
-impl ShownPage {
-    /// The most that it shows.
-    fn most(self) -> usize
-        ensures { result ≡ min self.limit page_most }
-    {
-        self.limit.min(PAGE_MOST)
+/// The octets of a key, if there is one.
+fn octets_of(key: &Option<Listed<u8>>) -> Option<&[u8]>
+    ensures { option_copied result ≡ key.now }
+{
+    match key {
+        Some(key) => Some(key.as_slice()),
+        None => None,
     }
 }
 
@@ -50,19 +43,20 @@ impl ShownPage {
 pub(crate) fn search_page<T: Tables>(
     tables: &mut T,
     institution: &Institution,
-    kind: SearchKind,
+    kind: &SearchKind,
     keys: &DataSet,
     page: ShownPage,
 ) -> Result<Found, TableFault>
     ensures found { (T.state tables.new).honest → IfOk result (λ found. found ≡ found_page page
-        (found_in kind keys.now (of institution.now.name (T.state tables.old).rows))) }
+        (found_in kind.now keys.now (of institution.now.name (T.state tables.old).rows))) }
     ensures reads { Reads (T.state tables.old) (T.state tables.new) result }
 {
-    let most = page.most();
     match kind {
-        SearchKind::StudyRoot => find_by_keys(tables, institution, keys, page.offset, most),
-        SearchKind::StudyImages => find_in_study(tables, institution, keys, page.offset, most),
-        SearchKind::Worklist => query_by_keys(tables, institution, keys, page.offset, most),
+        SearchKind::StudyRoot { after } => {
+            find_by_keys(tables, institution, keys, octets_of(after), page)
+        }
+        SearchKind::StudyImages => find_in_study(tables, institution, keys, page),
+        SearchKind::Worklist => query_by_keys(tables, institution, keys, page),
     }
 }
 

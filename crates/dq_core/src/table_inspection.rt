@@ -4,11 +4,11 @@ ghost use Rattle.dq_config.specs.declared.config.Institution.{Institution};
 ghost use Rattle.dq_tables.specs.declared.row.Row.{Row};
 ghost use Rattle.dq_tables.specs.TableStates.{Reads};
 
-use crate::showing::{SearchKind, ShownPage, search_page, steps_page};
+use crate::showing::{SearchKind, search_page, steps_page};
 use dq_config::Config;
 use dq_dataset::DataSet;
 use dq_list::Listed;
-use dq_match::Found;
+use dq_match::{Found, ShownPage};
 use dq_tables::{Kind, TableFault, Tables};
 
 /// An inspection of what keeps the rows of institutions. A copy of all rows is one.
@@ -56,7 +56,7 @@ impl<T: Tables> TableInspection<T> for RowCount<'_> {
 #[derive(Clone, Copy)]
 pub struct FoundPage<'a> {
     pub name: &'a [u8],
-    pub kind: SearchKind,
+    pub kind: &'a SearchKind,
     pub keys: &'a DataSet,
     pub page: ShownPage,
 }
@@ -68,7 +68,7 @@ impl<T: Tables> TableInspection<T> for FoundPage<'_> {
     type Seen = Option<Found>;
 
     ghost shows = { λ it institutions rows found.
-        found ≡ found_for institutions it.name.now rows it.kind it.keys.now it.page };
+        found ≡ found_for institutions it.name.now rows it.kind.now it.keys.now it.page };
 
     fn look(&self, config: &Config, tables: &mut T) -> Result<Option<Found>, TableFault> {
         let Some(institution) = config.institution(self.name) else {

@@ -1,15 +1,14 @@
 -- What is left of a search follows from the records that last.
-use Rattle.std.proofs.Common.{◌≡◌, ℕ, Bool, true, false, ◌&&◌, List, [], ◌∷◌, filter, find, length, drop, sum_by, Some, None, refl, sym, ap, ◌∙◌, if◌then◌else◌}
+use Rattle.std.proofs.Common.{◌≡◌, ℕ, Bool, true, false, ◌&&◌, List, [], ◌∷◌, filter, find, length, drop, sum_by, Some, refl, sym, ap, ◌∙◌, if◌then◌else◌}
 use Rattle.std.specs.List.{filter_map}
 use Rattle.std.specs.Str.{bytes_eq}
-use Rattle.std.specs.Ordering.{is_gt}
 use Rattle.std.proofs.lemmas.Bool.{and_parts}
 use Rattle.dq_dataset.specs.Tree.{ElementList}
 use Rattle.dq_dataset.specs.Editing.{merged_data_set}
 use Rattle.dq_tables.specs.declared.row.Kind.{Kind}
 use Rattle.dq_tables.specs.declared.row.Kind.TheVariants as kind
-use Rattle.dq_tables.specs.Rows.{Record, octet_order}
-use Rattle.dq_tables.specs.Lookups.{same_kind, record_at, records_of, records_above, records_after}
+use Rattle.dq_tables.specs.Rows.{Record}
+use Rattle.dq_tables.specs.Lookups.{same_kind, record_at, records_of, records_above}
 use Rattle.dq_tables.specs.Records.{data_set_of}
 use Rattle.dq_tables.proofs.RecordLists.{one_kind}
 use Rattle.dq_archive.specs.Additions.{is_lasting, lasting_records}
@@ -22,7 +21,7 @@ use Rattle.dq_find.specs.declared.open_search.OpenSearch.{OpenSearch}
 use Rattle.dq_find.specs.Levels.{kind_of}
 use Rattle.dq_find.specs.ComputedKeys.{images_below, modalities_in, backslash_joined, study_values, series_values, computed_keys}
 use Rattle.dq_find.specs.Candidates.{under, named_record}
-use Rattle.dq_find.specs.Queries.{answer_if, record_answer}
+use Rattle.dq_find.specs.Queries.{answer_if, record_answer, records_behind}
 use Rattle.dq_find.specs.OpenSearches.{candidates_left, left_of}
 use Rattle.dq_find.proofs.SearchPages.{narrower}
 
@@ -56,10 +55,6 @@ module _ (records : List Record) where
   unfolding records_above
   above_lasting k above lasts = ap (filter (λ (r : Record). bytes_eq r.above above)) (of_lasting k lasts)
 
-  after_lasting : (k : Kind) (key : List ℕ) → is_lasting k ≡ true → records_after k key (lasting_records records) ≡ records_after k key records
-  unfolding records_after
-  after_lasting k key lasts = ap (filter (λ (r : Record). is_gt (octet_order r.key key))) (of_lasting k lasts)
-
   at_lasting : (k : Kind) (key : List ℕ) → is_lasting k ≡ true → record_at k key (lasting_records records) ≡ record_at k key records
   unfolding record_at lasting_records
   at_lasting k key lasts =
@@ -90,8 +85,7 @@ module _ (records : List Record) where
     named_lasting uid = ap (under query.level query.keys) (at_lasting (kind_of query.level) uid (level_lasts query.level))
 
     candidates_lasting : (left : SearchCursor) → candidates_left (lasting_records records) query left ≡ candidates_left records query left
-    candidates_lasting (Studies None) = of_lasting kind.Study refl
-    candidates_lasting (Studies (Some key)) = after_lasting kind.Study key refl
+    candidates_lasting (Studies after) = ap (records_behind after) (of_lasting kind.Study refl)
     candidates_lasting (Named keys from) = λ i. filter_map (λ (uid : List ℕ). named_lasting uid i) (drop from keys)
     candidates_lasting Nothing = refl
 

@@ -21,3 +21,5 @@ mod SearchPages
 pub mod LastingRecords
 mod FoundAnswers
 mod StudyImages
+mod FilledPages
+mod PagesBehind

@@ -7,6 +7,7 @@ use Rattle.std.specs.List.{AllByRecursion, list_any, filter_map, cons_option}
 use Rattle.std.specs.List.Sorted.{IsStrictlySortedBy}
 use Rattle.std.specs.Str.{bytes_eq}
 use Rattle.std.specs.declared.cmp.Ordering.TheVariants.{Less}
+use Rattle.std.specs.Ordering.{is_gt}
 use Rattle.std.proofs.lemmas.Bool.{or_right}
 use Rattle.std.proofs.lemmas.Slice.Eq.{bytes_eq-Decides}
 use Rattle.dq_list.specs.Octets.{octets_of_vectors}
@@ -16,17 +17,16 @@ use Rattle.dq_vr.specs.Tags as tags
 use Rattle.dq_dataset.specs.Tree.{ElementList}
 use Rattle.dq_dataset.specs.View.{elements_of}
 use Rattle.dq_dataset.specs.Editing.{merged_data_set}
-use Rattle.dq_dataset.specs.Facts.{IsDataSet}
 use Rattle.dq_dataset.specs.Values.{element_at}
-use Rattle.dq_dataset.proofs.KnownVrs.{HasKnownVr, facts_give_known_vrs}
+use Rattle.dq_dataset.proofs.KnownVrs.{HasKnownVr}
 use Rattle.dq_match.specs.Matching.{fits}
 use Rattle.dq_match.specs.Responses.{shown_data_set}
 use Rattle.dq_match.specs.SeveralValues.{is_one_of_values}
-use Rattle.dq_match.proofs.Answering.{given_of_each, given_skipped}
+use Rattle.dq_match.proofs.Answering.{given_skipped}
 use Rattle.dq_tables.specs.declared.row.Kind.{Kind}
 use Rattle.dq_tables.specs.declared.row.Kind.TheVariants as kind
 use Rattle.dq_tables.specs.declared.row.Row.{Row}
-use Rattle.dq_tables.specs.Rows.{Record, IsRising, octet_order, record_of, row_of, of}
+use Rattle.dq_tables.specs.Rows.{Record, IsRising, octet_order, row_of, of}
 use Rattle.dq_tables.specs.Lookups.{record_at, records_of, records_above}
 use Rattle.dq_tables.specs.Records.{AreInOrder, data_set_of}
 use Rattle.dq_tables.specs.Keys.{uid_at}
@@ -42,16 +42,26 @@ use Rattle.dq_find.specs.declared.query.Query.{Query}
 use Rattle.dq_find.specs.Levels.{kind_of, unique_key}
 use Rattle.dq_find.specs.StudyChoice.{is_asked}
 use Rattle.dq_find.specs.ComputedKeys.{with_computed, computed_keys}
-use Rattle.dq_find.specs.Queries.{answer_elements, record_answer, answers_of_records, records_asked, asked_records}
+use Rattle.dq_find.specs.OpenSearches.{keys_behind}
+use Rattle.dq_find.specs.Queries.{answer_elements, record_answer, records_asked, asked_records, records_behind, answers_behind}
 use Rattle.dq_find.specs.Candidates.{own_values, names_records, looks_up, has_one_of, query_candidates, is_looked_at, is_under, under, looked_up, named_record, named_rows}
 use Rattle.dq_find.proofs.QueryLaws.{asked_from, asked_in_order}
-use Rattle.dq_find.proofs.RowAnswers.{row_answers, stays}
+use Rattle.dq_find.proofs.RowAnswers.{stays}
 use Rattle.dq_find.proofs.AskedRecords.{has_own, EachAlone}
 use Rattle.dq_find.proofs.AskedRows.{kept_all}
 use Rattle.dq_find.proofs.NamedRecords.{unique_keys_are_uids, sole_of_uid, named_among}
 use Rattle.dq_tables.proofs.TakenStudies.{DaysAreInOrder}
 use Rattle.dq_find.proofs.ChosenStudies.{Stay, fit_is_chosen}
 use Rattle.dq_find.proofs.Modalities.{IsInOrder, IsBefore}
+
+-- a test, and then those behind a key
+behind_filter : (after : Option (List ℕ)) (p : Record → Bool) (rs : List Record) → records_behind after (filter p rs) ≡ filter p (records_behind after rs)
+behind_filter None p rs = refl
+behind_filter (Some key) p rs = swapped (λ (r : Record). is_gt (octet_order r.key key)) p rs
+
+either_way : {A : Type 0} (b : Bool) (x : A) → x ≡ (if b then x else x)
+either_way true x = refl
+either_way false x = refl
 
 -- ---- the record that has a key
 
@@ -192,6 +202,31 @@ module _ (institution : List ℕ) (rows : List Row) (query : Query) (rising : Is
         λ h. (let kept = filtered_from (has_one_of uids) r asked h in to_named r uids kept.0 (one_of_from r.key uids kept.1)),
       ))
 
+  key_step : (key uid : List ℕ) (o : Option Record) (later : List Record) → ((r : Record) → o ≡ Some r → r.key ≡ uid)
+      → filter (λ (r : Record). is_gt (octet_order r.key key)) (cons_option o later)
+      ≡ (if is_gt (octet_order uid key) then cons_option o (filter (λ (r : Record). is_gt (octet_order r.key key)) later)
+      else filter (λ (r : Record). is_gt (octet_order r.key key)) later)
+  key_step key uid None later is = either_way (is_gt (octet_order uid key)) _
+  key_step key uid (Some r) later is =
+      ap (λ (k : List ℕ). if is_gt (octet_order k key) then r ∷ filter (λ (r : Record). is_gt (octet_order r.key key)) later
+      else filter (λ (r : Record). is_gt (octet_order r.key key)) later) (is r refl)
+
+  named_step : (uid : List ℕ) (uids : List (List ℕ)) (b : Bool)
+      → filter_map (named_record own query) (if b then uid ∷ uids else uids)
+      ≡ (if b then cons_option (named_record own query uid) (all_named uids) else all_named uids)
+  named_step uid uids true = refl
+  named_step uid uids false = refl
+
+  -- the keys behind a key name the records behind it
+  pub named_behind : (after : Option (List ℕ)) (uids : List (List ℕ)) → all_named (keys_behind after uids) ≡ records_behind after (all_named uids)
+  named_behind None uids = refl
+  named_behind (Some key) [] = refl
+  named_behind (Some key) (uid ∷ uids) =
+      let behind = is_gt (octet_order uid key) in
+      named_step uid (keys_behind (Some key) uids) behind
+      ∙ ap (λ (later : List Record). if behind then cons_option (named_record own query uid) later else later) (named_behind (Some key) uids)
+      ∙ sym (key_step key uid (named_record own query uid) (all_named uids) (λ r is. (named_gives uid r is).1))
+
 -- the same of rows
 rows_step : (institution : List ℕ) (o : Option Record) (later : List Record)
     → cons_option (option_map (row_of institution) o) (map (row_of institution) later) ≡ map (row_of institution) (cons_option o later)
@@ -302,17 +337,21 @@ module _ (institution : List ℕ) (rows : List Row) (called : List ℕ) (query :
   not_looked_at r true is h other =
       not_named_by r (fits query.keys (with_computed (of institution rows) query.level r)) h (looks_named query.level (own_values query) is) other refl
 
-  skipped : answers_of_records (of institution rows) called query ≡ filter_map (record_answer (of institution rows) called query) (query_candidates (of institution rows) query)
-  unfolding answers_of_records
-  skipped = grind (arith, given_skipped, not_looked_at)
+  among_asked : (after : Option (List ℕ)) (r : Record) → IsAmong r (records_behind after (asked_records (of institution rows) query))
+      → IsAmong r (asked_records (of institution rows) query)
+  among_asked None r h = h
+  among_asked (Some key) r h = (filtered_from (λ (s : Record). is_gt (octet_order s.key key)) r (asked_records (of institution rows) query) h).0
 
--- what is answered of the rows that are looked at
-pub answered_of_candidates : (institution : List ℕ) (rows : List Row) (called : List ℕ) (query : Query) → IsRising rows → OwnEach rows → IsDataSet query.keys → EachAlone query.keys
-    → DaysAreInOrder → row_answers (of institution rows) called query (map (row_of institution) (query_candidates (of institution rows) query))
-    ≡ answers_of_records (of institution rows) called query
-answered_of_candidates institution rows called query rising each_own facts alone days =
-    given_of_each (λ (row : Row). record_answer (of institution rows) called query (record_of row)) (row_of institution) (query_candidates (of institution rows) query)
-    ∙ sym (skipped institution rows called query rising each_own (facts_give_known_vrs 16 None query.keys facts) alone days)
+  -- none is passed over that answers
+  pub answers_of_candidates : (after : Option (List ℕ))
+      → filter_map (record_answer (of institution rows) called query) (records_behind after (query_candidates (of institution rows) query))
+      ≡ answers_behind after (of institution rows) called query
+  unfolding answers_behind
+  answers_of_candidates after =
+      let asked = asked_records (of institution rows) query in
+      ap (filter_map (record_answer (of institution rows) called query)) (behind_filter after (is_looked_at query) asked)
+      ∙ given_skipped (record_answer (of institution rows) called query) (is_looked_at query) (records_behind after asked)
+      (λ r h other. not_looked_at r (looks_up query.level (own_values query)) refl (among_asked after r h) other)
 
 -- where none are looked up, all that are asked for are looked at
 pub all_candidates : (institution : List ℕ) (records : List Record) (query : Query) → looks_up query.level (own_values query) ≡ false

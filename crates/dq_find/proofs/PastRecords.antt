@@ -1,18 +1,18 @@
 -- The records that there were, as those of rows.
-use Rattle.std.proofs.Common.{◌≡◌, ◌∙◌, ℕ, Bool, true, not, List, map, refl, sym, ap, subst}
+use Rattle.std.proofs.Common.{◌≡◌, ◌∙◌, ℕ, Bool, true, not, List, Option, None, map, refl, ap, subst}
 use Rattle.std.specs.Global.{Vec}
 use Rattle.std.specs.List.{filter, filter_map}
 use Rattle.std.specs.List.Sorted.{IsStrictlySortedBy}
 use Rattle.dq_dataset.specs.Facts.{IsDataSet}
+use Rattle.dq_dataset.proofs.KnownVrs.{facts_give_known_vrs}
 use Rattle.dq_list.specs.Octets.{octets_of_vectors}
 use Rattle.dq_match.specs.SeveralValues.{is_one_of_values}
-use Rattle.dq_match.proofs.Answering.{given_of_each}
 use Rattle.dq_tables.specs.declared.row.Kind.{Kind}
 use Rattle.dq_tables.specs.Lookups.{records_of}
 use Rattle.dq_tables.specs.Records.{AreInOrder}
 use Rattle.dq_tables.proofs.RecordLists.{listed_in_order}
 use Rattle.dq_tables.specs.declared.row.Row.{Row}
-use Rattle.dq_tables.specs.Rows.{Record, IsRising, octet_order, of, record_of, row_of}
+use Rattle.dq_tables.specs.Rows.{Record, IsRising, octet_order, of, record_of}
 use Rattle.dq_tables.specs.Sound.{IsSound, is_own_row}
 use Rattle.dq_tables.proofs.Lens.{of-filter}
 use Rattle.dq_tables.proofs.Order.{each_filtered, IsRising-filter}
@@ -21,10 +21,10 @@ use Rattle.dq_archive.specs.declared.additions.Addition.{Addition}
 use Rattle.dq_archive.specs.Additions.{is_later, without}
 use Rattle.dq_find.specs.declared.query.Query.{Query}
 use Rattle.dq_find.specs.Candidates.{own_values, looks_up, query_candidates, named_record}
-use Rattle.dq_find.specs.Queries.{record_answer, answers_of_records}
-use Rattle.dq_find.proofs.RowAnswers.{row_answers}
+use Rattle.dq_find.specs.OpenSearches.{keys_behind}
+use Rattle.dq_find.specs.Queries.{record_answer, records_behind, answers_behind}
 use Rattle.dq_find.proofs.AskedRecords.{EachAlone}
-use Rattle.dq_find.proofs.NamedLookups.{named_candidates, named_again, answered_of_candidates}
+use Rattle.dq_find.proofs.NamedLookups.{named_candidates, named_again, named_behind, answers_of_candidates}
 
 module _ (later : List Addition) (institution : List ℕ) (rows : List Row) where
   abbrev pub was : List Record
@@ -60,19 +60,18 @@ module _ (later : List Addition) (institution : List ℕ) (rows : List Row) wher
       subst (λ (records : List Record). AreInOrder (records_of kind records)) rows_then
       (listed_in_order kind institution (filter stays rows) (IsRising-filter stays rows rising))
 
-  pub answered_then : (called : List ℕ) (query : Query) → IsSound rows → IsDataSet query.keys → EachAlone query.keys → DaysAreInOrder
-      → row_answers was called query (map (row_of institution) (query_candidates was query)) ≡ answers_of_records was called query
-  answered_then called query sound facts alone days =
-      subst (λ (records : List Record). row_answers records called query (map (row_of institution) (query_candidates records query)) ≡ answers_of_records records called query)
-      rows_then
-      (answered_of_candidates institution (filter stays rows) called query (IsRising-filter stays rows sound.rising)
-      (each_filtered (λ (row : Row). is_own_row row ≡ true) stays rows sound.own) facts alone days)
-
-  -- the answers of those that some keys name
-  pub named_then_answered : (called : List ℕ) (query : Query) (keys : List (List ℕ)) → filter_map (named_record was query) keys ≡ query_candidates was query
+  -- the answers of those that some keys name, of those behind a key
+  pub named_then_answered : (called : List ℕ) (query : Query) (after : Option (List ℕ)) (keys : List (List ℕ))
+      → filter_map (named_record was query) keys ≡ query_candidates was query
       → IsSound rows → IsDataSet query.keys → EachAlone query.keys → DaysAreInOrder
-      → filter_map (record_answer was called query) (filter_map (named_record was query) keys) ≡ answers_of_records was called query
-  named_then_answered called query keys named sound facts alone days =
-      ap (filter_map (record_answer was called query)) named
-      ∙ sym (given_of_each (λ (row : Row). record_answer was called query (record_of row)) (row_of institution) (query_candidates was query))
-      ∙ answered_then called query sound facts alone days
+      → filter_map (record_answer was called query) (filter_map (named_record was query) (keys_behind after keys)) ≡ answers_behind after was called query
+  named_then_answered called query after keys named sound facts alone days =
+      let rising = IsRising-filter stays rows sound.rising in
+      let own = each_filtered (λ (row : Row). is_own_row row ≡ true) stays rows sound.own in
+      subst (λ (records : List Record). filter_map (named_record records query) keys ≡ query_candidates records query
+      → filter_map (record_answer records called query) (filter_map (named_record records query) (keys_behind after keys)) ≡ answers_behind after records called query)
+      rows_then
+      (λ is. ap (filter_map (record_answer (of institution (filter stays rows)) called query))
+      (named_behind institution (filter stays rows) query rising after keys ∙ ap (records_behind after) is)
+      ∙ answers_of_candidates institution (filter stays rows) called query rising own (facts_give_known_vrs 16 None query.keys facts) alone days after)
+      named

@@ -1,5 +1,5 @@
 -- Laws of queries.
-use Rattle.std.proofs.Common.{◌≡◌, ◌≢◌, ℕ, List, [], ◌∷◌, Option, Some, None, option_map, Result, Ok, Err, refl, ap, codes, arith}
+use Rattle.std.proofs.Common.{◌≡◌, ◌≢◌, ℕ, List, [], ◌∷◌, Option, Some, None, option_map, Result, Ok, Err, refl, ap, ◌∙◌, codes, arith}
 use Rattle.std.specs.List.{AllByRecursion, filter_map, cons_option}
 use Rattle.std.specs.Str.{bytes_eq}
 use Rattle.std.proofs.lemmas.Slice.Eq.{bytes_eq-Decides}
@@ -30,7 +30,7 @@ use Rattle.dq_find.specs.declared.level.Level.{Level}
 use Rattle.dq_find.specs.declared.level.Level.TheVariants.{Study, Series, Image}
 use Rattle.dq_find.specs.declared.query.Query.{Query}
 use Rattle.dq_find.specs.Levels.{kind_of, level_name}
-use Rattle.dq_find.specs.Queries.{identifier_query, message_query, key_above, records_asked, asked_records, answer_elements, record_answer, answers_of_records, about_answers, found_by, query_outcome, keys_outcome}
+use Rattle.dq_find.specs.Queries.{identifier_query, message_query, key_above, records_asked, asked_records, answer_elements, record_answer, answers_of_records, answers_behind, about_answers, found_by, query_outcome, found_behind, keys_outcome_after}
 use Rattle.dq_find.specs.Answers.{TellsLevel}
 use Rattle.dq_find.proofs.OtherElements.{first_of_three, second_of_three, third_of_three}
 
@@ -99,10 +99,18 @@ pub none_refused : (records : List Record) (called : List ℕ) (message : Messag
 unfolding query_outcome
 none_refused records called message syntax h = refused_by records called (message_query message syntax) h
 
+-- behind no key is every record
+found_of_all : (records : List Record) (called : List ℕ) (q : Result Query ℕ) → found_by records called q ≡ found_behind None records called q
+unfolding answers_of_records answers_behind
+found_of_all records called (Ok query) = refl
+found_of_all records called (Err status) = refl
+
 pub same_by_keys : (records : List Record) (called : List ℕ) (message : Message) (syntax : Syntax) (identifier : ElementList)
-    → identifier_in message syntax ≡ Ok identifier → query_outcome records called message syntax ≡ keys_outcome records called identifier
-unfolding query_outcome message_query keys_outcome
-same_by_keys records called message syntax identifier is = ap (λ (read : Result ElementList ℕ). found_by records called (identifier_query read)) is
+    → identifier_in message syntax ≡ Ok identifier → query_outcome records called message syntax ≡ keys_outcome_after None records called identifier
+unfolding query_outcome message_query keys_outcome_after
+same_by_keys records called message syntax identifier is =
+    ap (λ (read : Result ElementList ℕ). found_by records called (identifier_query read)) is
+    ∙ found_of_all records called (identifier_query (Ok identifier))
 
 pub same_found : (own other : List ℕ) → other ≢ own → (edits : List Edit) (rows : List Row) → IsRising rows
     → (called : List ℕ) (message : Message) (syntax : Syntax)

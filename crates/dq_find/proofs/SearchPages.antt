@@ -9,20 +9,18 @@ use Rattle.std.proofs.lemmas.List.{take-append-drop, drop-drop}
 use Rattle.std.proofs.lemmas.List.Elements.{filter_map-append}
 use Rattle.dq_tables.specs.declared.row.Kind.TheVariants.{Study as StudyKind}
 use Rattle.dq_tables.specs.declared.row.Row.{Row}
-use Rattle.dq_tables.specs.Rows.{Record, octet_order, record_of, row_of}
-use Rattle.dq_tables.specs.Lookups.{records_of, records_after}
+use Rattle.dq_tables.specs.Rows.{Record, octet_order, row_of}
+use Rattle.dq_tables.specs.Lookups.{records_of}
 use Rattle.dq_tables.specs.Records.{AreInOrder}
 use Rattle.dq_tables.proofs.RecordLists.{in_order_filter}
 use Rattle.dq_tables.proofs.Order.{each_weaker, each_passed, filter_all}
-use Rattle.dq_match.proofs.Answering.{given_of_each}
 use Rattle.dq_find.specs.declared.open_search.SearchCursor.{SearchCursor}
 use Rattle.dq_find.specs.declared.open_search.SearchCursor.TheVariants.{Studies, Named, Nothing}
 use Rattle.dq_find.specs.declared.open_search.OpenSearch.{OpenSearch}
 use Rattle.dq_find.specs.declared.query.Query.{Query}
 use Rattle.dq_find.specs.Candidates.{named_record}
-use Rattle.dq_find.specs.Queries.{record_answer}
-use Rattle.dq_find.specs.OpenSearches.{studies_behind, candidates_left, left_of, next_candidates, last_key, studies_after, left_after}
-use Rattle.dq_find.proofs.RowAnswers.{row_answers}
+use Rattle.dq_find.specs.Queries.{record_answer, records_behind}
+use Rattle.dq_find.specs.OpenSearches.{candidates_left, left_of, next_candidates, last_key, studies_after, left_after}
 use Rattle.dq_find.proofs.FromPlace.{past_all}
 
 abbrev pub behind : List ℕ → Record → Bool
@@ -73,39 +71,41 @@ behind_further key further s gt h =
     let two : octet_order further s.key ≡ Less = nat_list_cmp_total.antisymm further s.key ∙ ap ordering_reverse (gt_less (octet_order s.key further) h) in
     ap is_gt (nat_list_cmp_total.antisymm s.key key ∙ ap ordering_reverse (nat_list_cmp_total.trans key further s.key one two))
 
-module _ (records : List Record) (ordered : AreInOrder (records_of StudyKind records)) where
-  studies_ordered : (key : Option (List ℕ)) → AreInOrder (studies_behind records key)
-  unfolding records_after
-  studies_ordered None = ordered
-  studies_ordered (Some key) = in_order_filter (behind key) (records_of StudyKind records) ordered
+module _ (records : List Record) (ordered : AreInOrder records) where
+  behind_ordered : (key : Option (List ℕ)) → AreInOrder (records_behind key records)
+  behind_ordered None = ordered
+  behind_ordered (Some key) = in_order_filter (behind key) records ordered
 
-  -- the studies behind one of those that are left
-  studies_further : (key : Option (List ℕ)) (before : List Record) (r : Record) (later : List Record) → studies_behind records key ≡ before ++ (r ∷ later)
-      → studies_behind records (Some r.key) ≡ filter (behind r.key) (studies_behind records key)
-  unfolding records_after
-  studies_further None before r later is = refl
-  studies_further (Some key) before r later is =
-      sym (narrower (behind r.key) (behind key) (λ s. behind_further key r.key s (middle_passed before is)) (records_of StudyKind records))
+  -- those behind one of those that are behind a key
+  behind_one : (key : Option (List ℕ)) (before : List Record) (r : Record) (later : List Record) → records_behind key records ≡ before ++ (r ∷ later)
+      → filter (behind r.key) records ≡ filter (behind r.key) (records_behind key records)
+  behind_one None before r later is = refl
+  behind_one (Some key) before r later is =
+      sym (narrower (behind r.key) (behind key) (λ s. behind_further key r.key s (middle_passed before is)) records)
     where
       middle_of : (xs : List Record) → AllByRecursion (λ (s : Record). behind key s ≡ true) (xs ++ (r ∷ later)) → behind key r ≡ true
       middle_of [] each = each.0
       middle_of (x ∷ xs) each = middle_of xs each.1
 
-      middle_passed : (xs : List Record) → filter (behind key) (records_of StudyKind records) ≡ xs ++ (r ∷ later) → behind key r ≡ true
+      middle_passed : (xs : List Record) → filter (behind key) records ≡ xs ++ (r ∷ later) → behind key r ≡ true
       middle_passed xs e =
           middle_of xs (subst (AllByRecursion (λ (s : Record). behind key s ≡ true)) e
-          (each_passed (λ (s : Record). behind key s ≡ true) (behind key) (λ s h. h) (records_of StudyKind records)))
+          (each_passed (λ (s : Record). behind key s ≡ true) (behind key) (λ s h. h) records))
+
+  -- those after one of them are those behind it
+  pub later_of_one : (key : Option (List ℕ)) (before : List Record) (r : Record) (later : List Record) → records_behind key records ≡ before ++ (r ∷ later)
+      → filter (behind r.key) records ≡ later
+  later_of_one key before r later is =
+      behind_one key before r later is ∙ ap (filter (behind r.key)) is ∙ split_behind before r later (subst AreInOrder is (behind_ordered key))
 
   -- a page of them, and those behind its last
-  studies_split : (key : Option (List ℕ)) (most : ℕ) (before : List Record) (r : Record) → take most (studies_behind records key) ≡ before ++ (r ∷ [])
-      → studies_behind records key ≡ take most (studies_behind records key) ++ studies_behind records (Some r.key)
-  studies_split key most before r page =
-      let whole = studies_behind records key in
+  behind_split : (key : Option (List ℕ)) (most : ℕ) (before : List Record) (r : Record) → take most (records_behind key records) ≡ before ++ (r ∷ [])
+      → records_behind key records ≡ take most (records_behind key records) ++ filter (behind r.key) records
+  behind_split key most before r page =
+      let whole = records_behind key records in
       let later = drop most whole in
       let is : whole ≡ before ++ (r ∷ later) = sym (take-append-drop most whole) ∙ ap (λ l. l ++ later) page ∙ append_assoc before (r ∷ []) later in
-      let rest : studies_behind records (Some r.key) ≡ later =
-      studies_further key before r later is ∙ ap (filter (behind r.key)) is ∙ split_behind before r later (subst AreInOrder is (studies_ordered key)) in
-      sym (take-append-drop most whole) ∙ ap (λ l. take most whole ++ l) (sym rest)
+      sym (take-append-drop most whole) ∙ ap (λ l. take most whole ++ l) (sym (later_of_one key before r later is))
 
 -- ---- some keys, and those that are left of them
 
@@ -147,18 +147,21 @@ module _ (h : List ℕ) (most : ℕ) (some : 0 < most) (records : List Record) (
   abbrev then_left : SearchCursor → SearchCursor
   then_left left = left_after most (map (row_of h) (looked_at left)) left
 
-  studies_pass : (key : Option (List ℕ)) → studies_behind records key
-      ≡ take most (studies_behind records key) ++ candidates_left records query (studies_after (last_key (map (row_of h) (take most (studies_behind records key)))))
+  abbrev studies : Option (List ℕ) → List Record
+  studies key = records_behind key (records_of StudyKind records)
+
+  studies_pass : (key : Option (List ℕ)) → studies key
+      ≡ take most (studies key) ++ candidates_left records query (studies_after (last_key (map (row_of h) (take most (studies key)))))
   studies_pass key = by_end (ends_of page)
     where
       page : List Record
-      page = take most (studies_behind records key)
+      page = take most (studies key)
 
       by_end : (page ≡ []) ⊎ ((before : List Record) × (r : Record) × (page ≡ before ++ (r ∷ [])))
-          → studies_behind records key ≡ page ++ candidates_left records query (studies_after (last_key (map (row_of h) page)))
-      by_end (inl none) = none_first most (studies_behind records key) some none
+          → studies key ≡ page ++ candidates_left records query (studies_after (last_key (map (row_of h) page)))
+      by_end (inl none) = none_first most (studies key) some none
           ∙ sym (ap (λ l. l ++ candidates_left records query (studies_after (last_key (map (row_of h) l)))) none)
-      by_end (inr (before, r, is)) = studies_split records ordered key most before r is
+      by_end (inr (before, r, is)) = behind_split (records_of StudyKind records) ordered key most before r is
           ∙ sym (ap (λ k. page ++ candidates_left records query (studies_after k)) (ap (λ l. last_key (map (row_of h) l)) is ∙ last_of h before r))
 
   named_pass : (keys : List (List ℕ)) (from : ℕ) → filter_map (named_record records query) (drop from keys)
@@ -174,15 +177,13 @@ module _ (h : List ℕ) (most : ℕ) (some : 0 < most) (records : List Record) (
   passed (Named keys from) = named_pass keys from
   passed Nothing = refl
 
-  -- the answers of the rows that are looked at stand first
+  -- the answers of those that are looked at stand first
   pub page_first : (called : List ℕ) (left : SearchCursor) → filter_map (record_answer records called query) (candidates_left records query left)
-      ≡ row_answers records called query (map (row_of h) (looked_at left))
+      ≡ filter_map (record_answer records called query) (looked_at left)
       ++ filter_map (record_answer records called query) (candidates_left records query (then_left left))
   page_first called left =
       ap (filter_map (record_answer records called query)) (passed left)
       ∙ filter_map-append (record_answer records called query) (looked_at left) (candidates_left records query (then_left left))
-      ∙ ap (λ l. l ++ filter_map (record_answer records called query) (candidates_left records query (then_left left)))
-      (sym (given_of_each (λ (row : Row). record_answer records called query (record_of row)) (row_of h) (looked_at left)))
 
 -- nothing is left of keys from their end on
 pub none_left : (search : OpenSearch) (keys : List (List ℕ)) (from : ℕ) (records : List Record) → search.cursor ≡ Named keys from → length keys ≤ from

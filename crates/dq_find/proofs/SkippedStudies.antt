@@ -7,7 +7,7 @@ use Rattle.dq_match.specs.Matching.{fits}
 use Rattle.dq_match.specs.Responses.{shown_data_set}
 use Rattle.dq_tables.specs.declared.row.Kind.TheVariants.{Study as StudyKind}
 use Rattle.dq_tables.specs.Rows.{Record, row_of}
-use Rattle.dq_tables.specs.Lookups.{records_of, records_after}
+use Rattle.dq_tables.specs.Lookups.{records_of}
 use Rattle.dq_tables.specs.Records.{AreInOrder}
 use Rattle.dq_find.specs.declared.query.Query.{Query}
 use Rattle.dq_find.specs.ComputedKeys.{with_computed}
@@ -42,7 +42,6 @@ module _ (records : List Record) (called : List ℕ) (query : Query) (fit : (hel
 
     behind_one : (rest : List Record) → drop before studies ≡ rest
         → candidates_left records query (studies_after (last_key (map (row_of institution) (take 1 rest)))) ≡ drop (before + 1) studies
-    unfolding records_after
     behind_one [] is = sym (next_dropped is)
     behind_one (r ∷ later) is =
         let whole : studies ≡ take before studies ++ (r ∷ later) = sym (take-append-drop before studies) ∙ ap (λ l. take before studies ++ l) is in

@@ -1,6 +1,6 @@
 -- The answers to a query: which records they are of, and what each of them tells (PS3.4 section
 -- C.4.1).
-use Rattle.std.specs.Prelude.{◌≡◌, ◌↔◌, ℕ, true, List, map, codes}
+use Rattle.std.specs.Prelude.{◌≡◌, ◌↔◌, ℕ, true, List, map, filter, Option, is_some, codes}
 use Rattle.dq_list.specs.Among.{IsAmong}
 use Rattle.dq_vr.specs.declared.Tag.{Tag}
 use Rattle.dq_vr.specs.declared.Vr.TheVariants.{AE, CS}
@@ -19,7 +19,7 @@ use Rattle.dq_find.specs.declared.level.Level.TheVariants.{Study, Series, Image}
 use Rattle.dq_find.specs.declared.query.Query.{Query}
 use Rattle.dq_find.specs.Levels.{kind_of, level_name}
 use Rattle.dq_find.specs.ComputedKeys.{with_computed}
-use Rattle.dq_find.specs.Queries.{answer_elements}
+use Rattle.dq_find.specs.Queries.{answer_elements, record_answer, asked_records, records_behind}
 
 -- A record matches a query: it is kept, it is of the query's level, and with what is computed of it,
 -- it fits the query's keys (PS3.4 section C.4.1.2.1).
@@ -49,6 +49,12 @@ pub record AreQueryAnswers (records : List Record) (called : List ℕ) (query : 
   pub in_order : AreInOrder matching
   pub exactly : (r : Record) → IsAmong r matching ↔ MatchesQuery records query r
   pub each_told : answers ≡ map (told_of records called query) matching
+
+-- the records behind a key that answer a query, in the order of their keys
+abbrev pub answering_behind : Option (List ℕ) → List Record → List ℕ → Query → List Record
+answering_behind after records called query =
+    filter (λ (r : Record). is_some (record_answer records called query r))
+    (records_behind after (asked_records records query))
 
 abbrev pub value_at : Tag → ElementList → List ℕ
 value_at tag d = element_octets (element_at tag d)

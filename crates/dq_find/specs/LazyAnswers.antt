@@ -1,6 +1,5 @@
 -- The answers to a query, found as they are asked for.
-use Rattle.std.specs.Prelude.{◌≡◌, ◌+◌, ◌≤◌, ◌⊎◌, ℕ, List, [], ◌++◌, length, Option, IsSomeAnd, Result, Ok, Err, IfOk, OnOk}
-use Rattle.std.specs.Option.{ForSome}
+use Rattle.std.specs.Prelude.{◌≡◌, ◌≤◌, ◌⊎◌, ℕ, List, [], ◌++◌, length, Option, IsSomeAnd, Result, Ok, Err, IfOk, OnOk}
 use Rattle.dq_dataset.specs.Tree.{ElementList}
 use Rattle.dq_dimse.specs.Statuses.{success}
 use Rattle.dq_match.specs.Answers.{refused_with}
@@ -41,11 +40,6 @@ pub record BeginsAt {T : Type 0} (state : T → State) (old new : Past T) (calle
 abbrev pub HasFound : Option ℕ → PartialAnswers → Type 0
 HasFound number lazy =
     IsSomeAnd number (λ n. n ≤ length lazy.found) ⊎ ((records : List Record) → left_of lazy.search records ≡ [])
-
--- How many answers have to be found for a page: its offset and its length together. None stands for all, which always
--- suffice.
-abbrev pub IsNeeded : ℕ → Option ℕ → Option ℕ → Type 0
-IsNeeded from most number = ForSome number (λ n. IsSomeAnd most (λ some. n ≡ from + some))
 
 -- More was looked at, and the answers are those that they were.
 pub record LooksFurther {T : Type 0} (state : T → State) (old new : Past T) (most : ℕ)

@@ -1,5 +1,5 @@
 //! Laws of queries. Each function's contract is a law; its body changes nothing.
-ghost use Rattle.std.specs.Prelude.{◌≡◌, ◌≢◌, ◌≤◌, ◌*◌, ◌++◌, ℕ, List, [], ◌∷◌, length, take, drop, Ok, codes};
+ghost use Rattle.std.specs.Prelude.{◌≡◌, ◌≢◌, ◌≤◌, ◌+◌, ◌*◌, ◌++◌, ℕ, List, [], ◌∷◌, length, slice_get, take, drop, Option, Some, None, Ok, codes};
 ghost use Rattle.std.specs.List.{AllByRecursion, flat_map};
 ghost use Rattle.dq_dataset.specs.declared.header.Syntax.{Syntax};
 ghost use Rattle.dq_dataset.specs.declared.header.Syntax.TheVariants.{Explicit};
@@ -13,9 +13,10 @@ ghost use Rattle.dq_tables.specs.Rows.{Record, Edit, IsRising, of, by, after};
 ghost use Rattle.dq_tables.specs.Records.{data_set_of};
 ghost use Rattle.dq_tables.specs.Sound.{IsSound};
 ghost use Rattle.dq_find.specs.declared.query.Query.{Query};
-ghost use Rattle.dq_find.specs.Queries.{message_query, answers_of_records, query_outcome, keys_outcome};
+ghost use Rattle.dq_find.specs.Levels.{level_of};
+ghost use Rattle.dq_find.specs.Queries.{level_query, message_query, record_answer, answers_of_records, query_outcome, keys_outcome_after};
 ghost use Rattle.dq_find.specs.ComputedKeys.{modalities_in};
-ghost use Rattle.dq_find.specs.Answers.{MatchesQuery, HasKeyAbove, AreQueryAnswers, TellsLevel};
+ghost use Rattle.dq_find.specs.Answers.{answering_behind, MatchesQuery, HasKeyAbove, AreQueryAnswers, TellsLevel};
 ghost use Rattle.dq_find.specs.Modalities.{AreModalities};
 ghost use Rattle.dq_archive.specs.Additions.{lasting_records};
 ghost use Rattle.dq_find.specs.declared.open_search.OpenSearch.{OpenSearch};
@@ -61,7 +62,25 @@ pub fn what_matches_has_the_key_above()
 pub fn keys_are_answered_as_in_a_message()
     ensures { (records : List Record) (called : List ℕ) (message : Message) (syntax : Syntax)
         (identifier : ElementList) → identifier_in message syntax ≡ Ok identifier
-        → query_outcome records called message syntax ≡ keys_outcome records called identifier }
+        → query_outcome records called message syntax
+        ≡ keys_outcome_after None records called identifier }
+{}
+
+/// Whoever asks for what comes behind the key of the record that gave the last answer of a page is given
+/// the answers after that page: none is left out, and none comes twice.
+pub fn a_page_behind_a_key_goes_on()
+    ensures last { (institution : List ℕ) (rows : List Row) (after : Option (List ℕ)) (called : List ℕ)
+        (identifier : ElementList) (query : Query) (number : ℕ) (last : Record) → IsRising rows
+        → level_query identifier (level_of identifier) ≡ Ok query
+        → slice_get (answering_behind after (of institution rows) called query) number ≡ Some last
+        → slice_get (keys_outcome_after after (of institution rows) called identifier).answers number
+        ≡ record_answer (of institution rows) called query last }
+    ensures behind { (institution : List ℕ) (rows : List Row) (after : Option (List ℕ)) (called : List ℕ)
+        (identifier : ElementList) (query : Query) (number : ℕ) (last : Record) → IsRising rows
+        → level_query identifier (level_of identifier) ≡ Ok query
+        → slice_get (answering_behind after (of institution rows) called query) number ≡ Some last
+        → (keys_outcome_after (Some last.key) (of institution rows) called identifier).answers
+        ≡ drop (number + 1) (keys_outcome_after after (of institution rows) called identifier).answers }
 {}
 
 /// A query that is refused has no answers (PS3.4 section C.4.1.1.4).

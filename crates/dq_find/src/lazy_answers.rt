@@ -4,18 +4,16 @@ ghost use Rattle.std.specs.Result.{result_ok};
 ghost use Rattle.dq_dimse.specs.Statuses.{success};
 ghost use Rattle.dq_dimse.specs.Holding.{plain_message};
 ghost use Rattle.dq_dimse.specs.Receiving.{identifier_in};
-ghost use Rattle.dq_match.specs.Answers.{found_part};
 ghost use Rattle.dq_match.specs.Identifiers.{HasKnownTags};
-ghost use Rattle.dq_match.specs.Parts.{part_of, found_of};
 ghost use Rattle.dq_tables.specs.TableStates.{Reads};
 ghost use Rattle.dq_tables.specs.Rows.{of};
 ghost use Rattle.dq_tables.specs.ServiceEffects.{Serves};
 ghost use Rattle.dq_archive.specs.PastArchives.{QueriesOnly};
-ghost use Rattle.dq_find.specs.Queries.{found_by, query_outcome, keys_outcome};
-ghost use Rattle.dq_find.specs.LazyAnswers.{BeginsAt, LooksFurther, Finds, HasFound, IsNeeded, found_then};
+ghost use Rattle.dq_find.specs.Queries.{found_by, query_outcome};
+ghost use Rattle.dq_find.specs.LazyAnswers.{BeginsAt, LooksFurther, Finds, HasFound, found_then};
 
-use crate::open_search::OpenSearch;
-use crate::query::{Query, query_at, query_of};
+use crate::open_search::{MOST_AT_ONCE, OpenSearch};
+use crate::query::{Query, query_of};
 use dq_archive::Past;
 use dq_config::Institution;
 use dq_dataset::{DataSet, Syntax};
@@ -27,9 +25,6 @@ use dq_tables::{TableFault, Tables};
 use std::alloc::{AllocError, Global};
 use std::collections::VecDeque;
 use std::marker::Model;
-
-/// So many records are looked at in one call of the tables, at most.
-const MOST_AT_ONCE: usize = 256;
 
 /// The answers to a query: those that were found and not given yet, and the search for the others.
 #[derive(Drop)]
@@ -99,72 +94,27 @@ pub fn find<T: Tables>(
     let mut past = Past::new(tables, institution, &[]);
     let identifier = message.identifier(past.alloc, syntax)?;
     let asked = query_of(past.alloc, &identifier)?;
-    let found = answers_to(&mut past, called, asked, 0, None)?;
+    let found = all_answers(&mut past, called, asked)?;
     Ok(found)
 }
 
-/// Answers keys that no message brought, an identifier with its Query/Retrieve Level, as `find`
-/// answers the identifier of a message: the answers from a place on, at most so many. Nobody called a
-/// title, so they tell an empty one. Nothing is changed.
-#[tactic(auto, unfolding(crate::specs::Queries::keys_outcome))]
-pub fn find_by_keys<T: Tables>(
-    tables: &mut T,
-    institution: &Institution,
-    identifier: &DataSet,
-    from: usize,
-    most: usize,
-) -> Result<Found, TableFault>
-    ensures found { (T.state tables.new).honest → IfOk result (λ found. found ≡ found_part from most
-        (keys_outcome (of institution.now.name (T.state tables.old).rows) [] identifier.now)) }
-    ensures reads { Reads (T.state tables.old) (T.state tables.new) result }
-{
-    let mut kept = Past::new(tables, institution, &[]);
-    let asked = query_at(kept.alloc, identifier)?;
-    answers_to(&mut kept, &[], asked, from, Some(most))
-}
-
-/// The answers to a query from a place on, at most so many where there is a most, or the status that
-/// refuses it.
-fn answers_to<T: Tables>(
+/// All answers to a query, or the status that refuses it.
+fn all_answers<T: Tables>(
     archive: &mut Past<'_, T>,
     called: &[u8],
     asked: Result<Query, u16>,
-    from: usize,
-    most: Option<usize>,
 ) -> Result<Found, TableFault>
     requires { IfOk asked (λ query. HasKnownTags query.keys) }
     ensures { QueriesOnly T.state archive.old archive.new
-        (λ records. found_of from most (found_by records called.now asked)) result }
+        (λ records. found_by records called.now asked) result }
 {
-    let query = match asked {
-        Ok(query) => query,
+    let begun = begin_at(archive, called, asked)?;
+    let mut lazy = match begun {
+        Ok(lazy) => lazy,
         Err(status) => return Ok(Found::refused(archive.alloc, status)),
     };
-    let mut search = OpenSearch::begin(archive, called, query)?;
-    let from = search.skip(archive, from)?;
-    let mut lazy = LazyAnswers::new(archive.alloc, search);
-    lazy.find(archive, number_to_find(from, most))?;
-    Ok(lazy.into_part(from, most))
-}
-
-/// How many answers have to be found for those from a place on, at most so many where there is a most;
-/// all, where there is no such number.
-fn number_to_find(from: usize, most: Option<usize>) -> Option<usize>
-    ensures { IsNeeded from most result }
-{
-    from.checked_add(most?)
-}
-
-/// The part of some answers from a place on, at most so many where there is a most.
-fn part(mut answers: Vec<DataSet>, from: usize, most: Option<usize>) -> Listed<DataSet>
-    ensures { result ≡ part_of from most answers.items }
-{
-    let before = from.min(answers.len());
-    let _ = answers.drain(..before);
-    if let Some(most) = most {
-        answers.truncate(most);
-    }
-    Listed::from_inner(answers)
+    lazy.find(archive, None)?;
+    Ok(lazy.into_found())
 }
 
 /// Begins to answer a query, unless it is refused.
@@ -181,7 +131,7 @@ fn begin_at<T: Tables>(
         Err(status) => return Ok(Err(status)),
     };
     let alloc = archive.alloc;
-    let search = OpenSearch::begin(archive, called, query)?;
+    let search = OpenSearch::begin(archive, called, query, None)?;
     Ok(Ok(LazyAnswers::new(alloc, search)))
 }
 
@@ -251,19 +201,19 @@ impl LazyAnswers {
         }
     }
 
-    /// The answers that were found from a place on, at most so many where there is a most.
-    fn into_part(self, from: usize, most: Option<usize>) -> Found
+    /// The answers that were found.
+    fn into_found(self) -> Found
         ensures { result ≡ record {
           status = success;
           optional = self.search.query.optional;
-          answers = part_of from most self.found;
+          answers = self.found;
         } }
     {
         let optional = self.optional();
         Found {
             status: SUCCESS,
             optional,
-            answers: part(self.found.into_vec(), from, most),
+            answers: Listed::from_inner(self.found.into_vec()),
         }
     }
 

@@ -3,6 +3,7 @@
 #![tactic(auto)]
 
 mod computed_keys;
+mod key_pages;
 pub mod laws;
 mod lazy_answers;
 mod level;
@@ -14,7 +15,8 @@ mod study_choice;
 mod study_images;
 mod texts;
 
-pub use lazy_answers::{LazyAnswers, begin_find, find, find_by_keys};
+pub use key_pages::find_by_keys;
+pub use lazy_answers::{LazyAnswers, begin_find, find};
 pub use level::Level;
 pub use open_search::OpenSearch;
 pub use pages::Pages;

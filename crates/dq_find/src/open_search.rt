@@ -1,13 +1,11 @@
 //! A search that is open: its answers are found a page at a time.
-ghost use Rattle.std.specs.Prelude.{◌≡◌, ◌≤◌, ◌<◌, ◌++◌, ◌∷◌, [], true, None, Some, List, ℕ, length, take, drop, map, IfOk, OnErr};
+ghost use Rattle.std.specs.Prelude.{◌≡◌, ◌<◌, [], true, None, List, take, drop, map, IfOk};
+ghost use Rattle.std.specs.Option.{option_copied};
 ghost use Rattle.dq_match.specs.Identifiers.{HasKnownTags};
-ghost use Rattle.dq_dataset.specs.Tree.{ElementList};
-ghost use Rattle.dq_tables.specs.declared.row.Row.{Row as TheRow};
 ghost use Rattle.dq_tables.specs.Rows.{Record, row_of};
 ghost use Rattle.dq_archive.specs.PastArchives.{QueriesOnly};
-ghost use Rattle.dq_find.specs.Candidates.{named_rows, query_candidates};
-ghost use Rattle.dq_find.specs.OpenSearches.{Begins, Skips, TakesPage, next_candidates, left_after, left_of, last_key};
-ghost use Rattle.dq_find.specs.Queries.{record_answer};
+ghost use Rattle.dq_find.specs.OpenSearches.{Begins, Skips, TakesNext, TakesPage, keys_behind, next_candidates, left_after, left_of, last_key};
+ghost use Rattle.dq_find.specs.StudyImages.{TakesAnswers};
 ghost use Rattle.dq_find.specs.declared.level.Level.TheVariants.{Study};
 ghost use Rattle.dq_find.specs.declared.open_search.SearchCursor.TheVariants.{Studies};
 
@@ -20,10 +18,13 @@ use dq_archive::Past;
 use dq_dataset::DataSet;
 use dq_list::Listed;
 use dq_match::laws::{keys_are_met_alone_and_as_a_period, universal_keys_are_met};
-use dq_match::{PreparedKeys, asks_nothing};
+use dq_match::{PageCollector, PreparedKeys, asks_nothing};
 use dq_tables::laws::{day_numbers_are_in_order, honest_rows_are_sound};
 use dq_tables::{Kind, Row, TableFault, Tables};
 use std::alloc::{AllocError, Global};
+
+/// So many records are looked at in one call of the tables, at most.
+pub(crate) const MOST_AT_ONCE: usize = 256;
 
 /// The records that a search has still to look at.
 #[derive(Drop)]
@@ -51,6 +52,28 @@ fn part(keys: &[Listed<u8>], from: usize, most: usize) -> &[Listed<u8>]
     let rest = &keys[from..];
     let most = most.min(rest.len());
     &rest[..most]
+}
+
+/// A copy of a key, if there is one.
+fn key_copy(alloc: Global, key: Option<&[u8]>) -> Result<Option<Listed<u8>>, AllocError>
+    ensures { IfOk result (λ copy. copy ≡ option_copied key.entry) }
+{
+    let Some(key) = key else {
+        return Ok(None);
+    };
+    Ok(Some(Listed::copy_of(alloc, key)?))
+}
+
+/// Those of some keys that come behind a key in the order of octets; all where there is no key.
+fn keys_behind(keys: Listed<Listed<u8>>, after: Option<&[u8]>) -> Listed<Listed<u8>>
+    ensures { result ≡ keys_behind (option_copied after.entry) keys }
+{
+    let Some(after) = after else {
+        return keys;
+    };
+    let mut keys = keys.into_inner();
+    keys.retain(|key| key.as_slice().cmp(after).is_gt());
+    Listed::from_inner(keys)
 }
 
 /// The key of the last of some rows.
@@ -95,6 +118,7 @@ impl SearchCursor {
     }
 
     /// The rows that are looked at next, at most so many.
+    #[tactic(auto, unfolding(dq_tables::specs::Lookups::records_after))]
     fn next_rows<T: Tables>(
         &self,
         archive: &mut Past<'_, T>,
@@ -138,14 +162,15 @@ impl SearchCursor {
 }
 
 impl OpenSearch {
-    /// Begins a search: all its answers are left.
+    /// Begins a search among the records behind a key, or among all without a key. All its answers are left.
     pub fn begin<T: Tables>(
         archive: &mut Past<'_, T>,
         called: &[u8],
         query: Query,
+        after: Option<&[u8]>,
     ) -> Result<OpenSearch, TableFault>
         requires { HasKnownTags query.keys }
-        ensures { Begins T.state archive.old archive.new called.now query result }
+        ensures { Begins T.state archive.old archive.new called.now query (option_copied after.entry) result }
     {
         honest_rows_are_sound::<T>();
         day_numbers_are_in_order();
@@ -153,10 +178,11 @@ impl OpenSearch {
         query.keys.has_facts();
         let called = Listed::copy_of(archive.alloc, called)?;
         if scans_studies(archive.alloc, &query)? {
+            let behind = key_copy(archive.alloc, after)?;
             return Ok(OpenSearch {
                 called,
                 query,
-                cursor: SearchCursor::Studies(None),
+                cursor: SearchCursor::Studies(behind),
             });
         }
         let prepared = PreparedKeys::of(archive.alloc, &query.keys)?;
@@ -169,7 +195,7 @@ impl OpenSearch {
         Ok(OpenSearch {
             called,
             query,
-            cursor: SearchCursor::Named(keys, 0),
+            cursor: SearchCursor::Named(keys_behind(keys, after), 0),
         })
     }
 
@@ -192,7 +218,7 @@ impl OpenSearch {
         Ok(0)
     }
 
-    /// Looks at the next records, at most so many, and takes their answers.
+    /// Looks at the next records, at most so many, and returns their answers.
     pub fn next_page<T: Tables>(
         &mut self,
         archive: &mut Past<'_, T>,
@@ -202,6 +228,44 @@ impl OpenSearch {
         requires known { HasKnownTags self.old.query.keys }
         ensures { TakesPage T.state archive.old archive.new most self.old self.new result }
     {
+        let mut page = PageCollector::new(archive.alloc, 0, None);
+        self.take_next(archive, &mut page, most)?;
+        Ok(page.into_answers())
+    }
+
+    /// Takes the answers that are left into a page. Looks at no more than `first` records at first, then at
+    /// twice as many each time; at none once the page is full.
+    pub(crate) fn fill<T: Tables>(
+        &mut self,
+        archive: &mut Past<'_, T>,
+        page: &mut PageCollector,
+        first: usize,
+    ) -> Result<(), TableFault>
+        requires known { HasKnownTags self.old.query.keys }
+        ensures { TakesAnswers T.state archive.old archive.new page.old page.new (left_of self.old) result }
+    {
+        let mut most = first.min(MOST_AT_ONCE).max(1);
+        for _ in 0..u64::MAX {
+            if page.is_full() || self.is_done() {
+                return Ok(());
+            }
+            self.take_next(archive, page, most)?;
+            most = most.saturating_mul(2).min(MOST_AT_ONCE);
+        }
+        Err(TableFault::NoMemory)
+    }
+
+    /// Looks at the next records, at most so many, and takes their answers into a page.
+    fn take_next<T: Tables>(
+        &mut self,
+        archive: &mut Past<'_, T>,
+        page: &mut PageCollector,
+        most: usize,
+    ) -> Result<(), TableFault>
+        requires some { 0 < most }
+        requires known { HasKnownTags self.old.query.keys }
+        ensures { TakesNext T.state archive.old archive.new most self.old self.new page.old page.new result }
+    {
         honest_rows_are_sound::<T>();
         let prepared = PreparedKeys::of(archive.alloc, &self.query.keys)?;
         let search = Search {
@@ -210,9 +274,9 @@ impl OpenSearch {
             prepared: &prepared,
         };
         let rows = self.cursor.next_rows(archive, &search, most)?;
-        let page = search.answers_of(archive, rows.as_slice())?;
+        search.take_answers(archive, rows.as_slice(), page)?;
         self.cursor.pass(rows, most);
-        Ok(page)
+        Ok(())
     }
 
     /// Whether nothing is left to look at, so that no answer is left.

@@ -296,29 +296,6 @@ impl Search<'_> {
         Ok(self.answer(archive.alloc, about, &held)?)
     }
 
-    /// The answers that some rows give, in their order.
-    pub(crate) fn answers_of<T: Tables>(
-        &self,
-        archive: &mut Past<'_, T>,
-        rows: &[Row],
-    ) -> Result<Listed<DataSet>, TableFault>
-        requires known { HasKnownTags self.now.query.now.keys }
-        requires prepared { self.now.prepared.now ≡ self.now.query.now.keys }
-        ensures { QueriesOnly T.state archive.old archive.new (λ records. filter_map
-            (λ (row : TheRow). record_answer records self.now.called.now self.now.query.now
-            (record_of row)) rows.now) result }
-    {
-        let about = about_answers(archive.alloc, self.called, self.query.level)?;
-        let mut answers = Listed::empty(archive.alloc);
-        for row in rows {
-            let answer = self.answer_of(archive, &about, row)?;
-            if let Some(answer) = answer {
-                answers.push(answer)?;
-            }
-        }
-        Ok(answers)
-    }
-
     /// Takes the answers that some rows give into a page, in their order. No row is looked at once it is full.
     pub(crate) fn take_answers<T: Tables>(
         &self,

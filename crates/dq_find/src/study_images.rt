@@ -1,8 +1,8 @@
 //! The images of a study, of all its series (PS3.18 section 10.6.1).
 ghost use Rattle.std.specs.Prelude.{◌≡◌, [], IfOk, map};
 ghost use Rattle.std.specs.List.{filter_map};
-ghost use Rattle.dq_match.specs.Answers.{found_part};
 ghost use Rattle.dq_match.specs.Identifiers.{HasKnownTags};
+ghost use Rattle.dq_match.specs.ShownPages.{found_page};
 ghost use Rattle.dq_tables.specs.Rows.{of, record_of};
 ghost use Rattle.dq_tables.specs.TableStates.{Reads};
 ghost use Rattle.dq_archive.specs.PastArchives.{QueriesOnly};
@@ -17,30 +17,29 @@ use dq_archive::Past;
 use dq_config::Institution;
 use dq_dataset::DataSet;
 use dq_dimse::status::{DOES_NOT_MATCH_SOP_CLASS, SUCCESS};
-use dq_match::{Found, PageCollector, PreparedKeys, is_query, strike};
+use dq_match::{Found, PageCollector, PreparedKeys, ShownPage, is_query, strike};
 use dq_tables::{Kind, Row, TableFault, Tables};
 use dq_vr::tags;
 use std::alloc::{AllocError, Global};
 
 /// Answers an identifier of level IMAGE that names one study and need not name a series: of the study's series, in the
-/// order of their keys, the images that fit, those of one series after the other. Returns the answers from a place on,
-/// at most so many. It is refused with status A900 where it names another level or not one study, or has values that
-/// are not well formed. Nobody called a title, so the answers tell an empty one. Nothing is changed.
+/// order of their keys, the images that fit, those of one series after the other. Returns a page of the answers. It is
+/// refused with status A900 where it names another level or not one study, or has values that are not well formed.
+/// Nobody called a title, so the answers tell an empty one. Nothing is changed.
 #[tactic(auto, unfolding(crate::specs::StudyImages::study_outcome))]
 pub fn find_in_study<T: Tables>(
     tables: &mut T,
     institution: &Institution,
     identifier: &DataSet,
-    from: usize,
-    most: usize,
+    page: ShownPage,
 ) -> Result<Found, TableFault>
-    ensures found { (T.state tables.new).honest → IfOk result (λ found. found ≡ found_part from most
+    ensures found { (T.state tables.new).honest → IfOk result (λ found. found ≡ found_page page
         (study_outcome (of institution.now.name (T.state tables.old).rows) identifier.now)) }
     ensures reads { Reads (T.state tables.old) (T.state tables.new) result }
 {
     let mut kept = Past::new(tables, institution, &[]);
     let asked = query_in_study(kept.alloc, identifier)?;
-    answers_in_study(&mut kept, asked, from, most)
+    answers_in_study(&mut kept, asked, page)
 }
 
 /// The query of an identifier, or the status that refuses it.
@@ -63,16 +62,15 @@ fn query_in_study(alloc: Global, identifier: &DataSet) -> Result<Result<Query, u
     }))
 }
 
-/// The answers to a query from a place on, at most so many, or the status that refuses it.
+/// A page of the answers to a query, or the status that refuses it.
 fn answers_in_study<T: Tables>(
     archive: &mut Past<'_, T>,
     asked: Result<Query, u16>,
-    from: usize,
-    most: usize,
+    page: ShownPage,
 ) -> Result<Found, TableFault>
     requires { IfOk asked (λ query. HasKnownTags query.keys) }
     ensures { QueriesOnly T.state archive.old archive.new
-        (λ records. found_part from most (found_in_study records asked)) result }
+        (λ records. found_page page (found_in_study records asked)) result }
 {
     let query = match asked {
         Ok(query) => query,
@@ -86,12 +84,12 @@ fn answers_in_study<T: Tables>(
     };
     let study = key_above(&query.keys, tags::STUDY_INSTANCE_UID);
     let series = archive.rows_above(Kind::Series, study)?;
-    let mut page = PageCollector::new(archive.alloc, from, Some(most));
-    take_images(&search, archive, series.as_slice(), &mut page)?;
+    let mut collector = PageCollector::new(archive.alloc, page.offset, Some(page.most()));
+    take_images(&search, archive, series.as_slice(), &mut collector)?;
     Ok(Found {
         status: SUCCESS,
         optional: query.optional,
-        answers: page.into_answers(),
+        answers: collector.into_answers(),
     })
 }
 

@@ -1,7 +1,8 @@
 -- The reads and writes of a connection of the web front.
-use Rattle.std.specs.Prelude.{◌≡◌, ◌⊎◌, ◌++◌, ◌&&◌, ℕ, ◌<◌, ◌/◌, ◌-◌, nat_le, Bool, true, false, not, is_some, IsTrue, IfSome, if◌then◌else◌, List, [], length, drop, Option, Some, None, Result}
+use Rattle.std.specs.Prelude.{◌≡◌, ◌⊎◌, ◌++◌, ◌&&◌, ℕ, ◌<◌, ◌/◌, ◌-◌, nat_le, Bool, true, false, not, is_some, IsTrue, IfSome, OnOk, if◌then◌else◌, List, [], length, drop, string_bytes, Option, Some, None, Result}
 use Rattle.std.specs.Borrow.{Bor}
 use Rattle.std.specs.Time.{instant_nanos}
+use Rattle.std.specs.declared.alloc.AllocError.{AllocError}
 use Rattle.std.specs.declared.net.ip_addr.IpAddr.{IpAddr}
 use Rattle.std.specs.declared.net.socket_addr.SocketAddr.{SocketAddr}
 use Rattle.std.specs.declared.time.Instant.{Instant}
@@ -13,6 +14,7 @@ use Rattle.dq_request.specs.declared.request.Request.TheVariants as request
 use Rattle.dq_request.specs.declared.response.Response.{Response}
 use Rattle.dq_web.specs.declared.guard.Guard.{Guard}
 use Rattle.dq_web.specs.declared.replies.Written.{Written}
+use Rattle.dq_web.specs.declared.status.Status.{Status}
 use Rattle.dq_web.specs.Answers.{IsReplyTo, IsResponse}
 use Rattle.dq_web.specs.Guards.{IsProxy}
 use Rattle.dq_wires.specs.Logs.{Logs}
@@ -28,7 +30,8 @@ use Rattle.dq_http.specs.declared.http_connection.TheConstants.{CONTINUE}
 use Rattle.dq_http.specs.declared.http_connection.Stage.{Stage}
 use Rattle.dq_http.specs.declared.http_connection.Stage.TheVariants as stage
 use Rattle.dq_http.specs.declared.http_connection.HttpConnection.{HttpConnection}
-use Rattle.dq_http.specs.Notes.{direct_sender}
+use Rattle.dq_http.specs.declared.request_log.Notes.{Notes}
+use Rattle.dq_http.specs.Notes.{direct_sender, HasNote}
 use Rattle.dq_http.specs.RequestOutcomes.{IsOutcome, IsTooLate}
 
 -- one that has just come from a peer, and of which nothing is read
@@ -74,14 +77,24 @@ is_busy connection = is_busy_in connection.stage connection.is_fresh
 abbrev pub with_response : HttpConnection → List ℕ → HttpConnection
 with_response connection octets = record connection { stage = stage.Writing octets 0 }
 
--- The server's response to a question is written as HTTP has it. Where there is no memory for that, nothing is
--- written, and nothing more is read.
-abbrev pub AnswersAt : List Institution → Stage → Response → HttpConnection → HttpConnection → Type 0
-AnswersAt institutions (stage.Waiting question) response old new =
+-- a connection's request has one note more in the log, with this outcome
+abbrev pub IsNoted : HttpConnection → Notes → Notes → Option Status → Type 0
+IsNoted connection old new status =
+    HasNote connection.peer (string_bytes connection.words) status (string_bytes old.lines) (string_bytes new.lines)
+
+-- So it has, but where there is no memory for a response, there may be none for the note either, as is then reported.
+abbrev pub IsNotedOr : Result (Unit {0}) AllocError → HttpConnection → Notes → Notes → Option Status → Type 0
+IsNotedOr reported connection old new (Some status) = IsNoted connection old new (Some status)
+IsNotedOr reported connection old new None = OnOk reported (IsNoted connection old new None)
+
+-- The server's response to a question is written as HTTP has it, and its status is noted. Where there is no memory for
+-- that, nothing is written, nothing more is read, and that is noted.
+abbrev pub AnswersAt : List Institution → Stage → Response → (Option Status → Type 0) → HttpConnection → HttpConnection → Type 0
+AnswersAt institutions (stage.Waiting question) response Noted old new =
     ((written : Written) × IsResponse (IsReplyTo question response institutions) question.framing written
-    × (new ≡ with_response old written.octets.items))
-    ⊎ (new ≡ record old { stage = stage.Over })
-AnswersAt institutions other response old new = new ≡ old
+    × (new ≡ with_response old written.octets.items) × Noted (Some written.status))
+    ⊎ ((new ≡ record old { stage = stage.Over }) × Noted None)
+AnswersAt institutions other response Noted old new = new ≡ old
 
 -- what is left of a response that is written
 abbrev pub IsRest : Stage → Option (Bor (List ℕ)) → Type 0

@@ -1,6 +1,6 @@
 -- The log's note of a request: the address that it came from, that from which a proxy says it came, the label of the
 -- access token that let it in, its method, its institution, the path below that without its query, and the status of
--- its response.
+-- its response, or that there is no memory for one.
 use Rattle.std.specs.Prelude.{◌≡◌, ◌==◌, ℕ, ◌++◌, Bool, ◌||◌, ◌&&◌, false, if◌then◌else◌, List, [], ◌∷◌, take, drop, map, position, codes, Option, Some, None}
 use Rattle.std.specs.Char.{is_ascii_graphic, is_ascii_uppercase, is_ascii_digit}
 use Rattle.std.specs.Fmt.{decimal}
@@ -68,7 +68,12 @@ forwarded_text (Some address) = codes " for " ++ ip_text address
 abbrev pub sender_text : Sender → List ℕ
 sender_text sender = peer_text sender.address ++ forwarded_text sender.forwarded
 
--- One line more, with the status code of the response (RFC 9110 section 15), and how long it took.
-abbrev pub HasNote : Sender → List ℕ → Status → List ℕ → List ℕ → Type 0
+-- the status code of a response (RFC 9110 section 15), or that there is no memory for one
+abbrev pub outcome_text : Option Status → List ℕ
+outcome_text (Some status) = decimal (status_code status)
+outcome_text None = codes "no memory"
+
+-- One line more, with the outcome of the request, and how long it took.
+abbrev pub HasNote : Sender → List ℕ → Option Status → List ℕ → List ℕ → Type 0
 HasNote peer words status old new = (milliseconds : ℕ)
-    × (new ≡ old ++ (sender_text peer ++ (codes " " ++ (words ++ (codes " " ++ (decimal (status_code status) ++ (codes " ms " ++ (decimal milliseconds ++ codes "\n"))))))))
+    × (new ≡ old ++ (sender_text peer ++ (codes " " ++ (words ++ (codes " " ++ (outcome_text status ++ (codes " ms " ++ (decimal milliseconds ++ codes "\n"))))))))

@@ -1,15 +1,15 @@
 //! A connection of the web front.
-ghost use Rattle.std.specs.Prelude.{◌≡◌, option_copied, IfOk, OnOk};
+ghost use Rattle.std.specs.Prelude.{◌≡◌, Some, option_copied, string_bytes, IfOk, OnErr, OnOk};
 ghost use Rattle.std.specs.Bool.{OnTrue};
 ghost use Rattle.dq_web.specs.Answers.{IsReplyTo, IsResponse};
-ghost use Rattle.dq_http.specs.HttpConnections.{IsNew, IsOver, IsRest, WritesRest, IsSent, IsRead, IsTakenOff, with_response, AnswersAt, seen, awaiting_body, begun_wait, is_late, IsSender, IsRefusedLate, TakesAnswer, Takes, TakesFront, is_to_take, TakesUp, TakesOrRefuses, Moves, Turns, is_waiting, is_busy, asked_in, asks_report};
+ghost use Rattle.dq_http.specs.HttpConnections.{IsNew, IsNoted, IsNotedOr, IsOver, IsRest, WritesRest, IsSent, IsRead, IsTakenOff, with_response, AnswersAt, seen, awaiting_body, begun_wait, is_late, IsSender, IsRefusedLate, TakesAnswer, Takes, TakesFront, is_to_take, TakesUp, TakesOrRefuses, Moves, Turns, is_waiting, is_busy, asked_in, asks_report};
 ghost use Rattle.dq_http.specs.Places.{is_of, is_idle};
 
 use crate::http_state::{Answer, Given, HttpState, RequestOutcome};
 use crate::request_log::{Notes, Sender, has_address};
 use dq_list::Listed;
 use dq_request::{Request, Response};
-use dq_web::{Question, Written};
+use dq_web::{Question, Status, Written};
 use dq_wires::{ReadTurn, WireFault, Wires};
 use std::alloc::{AllocError, Global};
 use std::net::{IpAddr, SocketAddr};
@@ -69,10 +69,7 @@ impl HttpConnection {
     {
         HttpConnection {
             place,
-            peer: Sender {
-                address: peer,
-                forwarded: None,
-            },
+            peer: Sender::direct(peer),
             came: Vec::new(alloc),
             stage: Stage::Reading,
             is_last: false,
@@ -141,6 +138,14 @@ impl HttpConnection {
         self.stage = Stage::Writing(Listed::from_inner(octets), 0);
     }
 
+    /// Notes the status of the response to its request, or that there is no memory for one.
+    pub fn tell(&self, status: Option<Status>, notes: &mut Notes) -> Result<(), AllocError>
+        ensures line { OnOk result (IsNoted self.now notes.old notes.new status) }
+        ensures lost { OnErr result (string_bytes notes.new.lines ≡ string_bytes notes.old.lines) }
+    {
+        notes.tell(self.peer, self.words.as_str(), self.begun, status)
+    }
+
     // The response of HTTP to its question, whose status is noted.
     fn response_to(
         &self,
@@ -149,26 +154,41 @@ impl HttpConnection {
         state: &HttpState,
         notes: &mut Notes,
     ) -> Result<Written, AllocError>
-        ensures { IfOk result (IsResponse (IsReplyTo question.now response.now
+        ensures response { IfOk result (IsResponse (IsReplyTo question.now response.now
             state.now.institutions.items) question.now.framing) }
+        ensures noted { IfOk result (λ written.
+            IsNoted self.now notes.old notes.new (Some written.status)) }
+        ensures lost { OnErr result (string_bytes notes.new.lines ≡ string_bytes notes.old.lines) }
     {
         let written = state.response_to(question, response)?;
+        self.tell(Some(written.status), notes)?;
         notes.count(&written);
-        notes.tell(self.peer, self.words.as_str(), self.begun, written.status)?;
         Ok(written)
     }
 
-    /// Answers its question, if one waits. Where there is no memory for the response, none is written,
-    /// and the connection is over.
-    pub fn answer(&mut self, response: &Response, state: &HttpState, notes: &mut Notes)
-        ensures { AnswersAt state.now.institutions.items self.old.stage response.now self.old self.new }
+    /// Answers its question, if one waits, and notes that. Where there is no memory for the response, none is
+    /// written, and the connection is over. An error says that there is no memory for the note of that.
+    pub fn answer(
+        &mut self,
+        response: &Response,
+        state: &HttpState,
+        notes: &mut Notes,
+    ) -> Result<(), AllocError>
+        ensures { AnswersAt state.now.institutions.items self.old.stage response.now
+            (IsNotedOr result self.old notes.old notes.new) self.old self.new }
     {
         let Stage::Waiting(question) = &self.stage else {
-            return;
+            return Ok(());
         };
         match self.response_to(question, response, state, notes) {
-            Ok(written) => self.put(written.octets),
-            Err(AllocError) => self.stage = Stage::Over,
+            Ok(written) => {
+                self.put(written.octets);
+                Ok(())
+            }
+            Err(AllocError) => {
+                self.stage = Stage::Over;
+                self.tell(None, notes)
+            }
         }
     }
 
@@ -221,23 +241,24 @@ impl HttpConnection {
     }
 
     /// Reads what came. The answer is whether the connection is still there.
-    fn read<W: Wires>(&mut self, wires: &mut W, buffer: &mut [u8]) -> bool
+    fn read<W: Wires>(&mut self, wires: &mut W, buffer: &mut [u8]) -> Result<bool, AllocError>
         ensures over { IsOver self.old.stage → (self.new ≡ self.old) × (wires.new ≡ wires.old) }
-        ensures came { OnTrue result (IsRead self.old self.new) }
+        ensures came { IfOk result (λ there. OnTrue there (IsRead self.old self.new)) }
     {
         if let Stage::Over = self.stage {
-            return false;
+            return Ok(false);
         }
         match wires.read(self.place, buffer) {
             Ok(ReadTurn::Got(count)) => {
                 let Some(came) = buffer.get(..count) else {
-                    return false;
+                    return Ok(false);
                 };
                 self.is_fresh = true;
-                self.came.extend_from_slice(came).is_ok()
+                self.came.extend_from_slice(came)?;
+                Ok(true)
             }
-            Ok(ReadTurn::Nothing) => true,
-            Ok(ReadTurn::Ended) | Err(WireFault) => false,
+            Ok(ReadTurn::Nothing) => Ok(true),
+            Ok(ReadTurn::Ended) | Err(WireFault) => Ok(false),
         }
     }
 
@@ -266,7 +287,7 @@ impl HttpConnection {
         match answer.given {
             Given::Response(written) => {
                 notes.count(&written);
-                notes.tell(self.peer, self.words.as_str(), self.begun, written.status)?;
+                self.tell(Some(written.status), notes)?;
                 self.put(written.octets);
             }
             Given::Question(question) => self.stage = Stage::Waiting(question),
@@ -321,7 +342,7 @@ impl HttpConnection {
             RequestOutcome::Refuse(words, written) => {
                 let begun = notes.now();
                 notes.count(&written);
-                notes.tell(self.peer, words.as_str(), begun, written.status)?;
+                notes.tell(self.peer, words.as_str(), begun, Some(written.status))?;
                 self.is_fresh = false;
                 self.is_last = true;
                 self.put(written.octets);
@@ -356,15 +377,15 @@ impl HttpConnection {
     }
 
     // A response is written, or what comes is read. The answer is whether the connection is still there.
-    fn moves<W: Wires>(&mut self, wires: &mut W, buffer: &mut [u8]) -> bool
-        ensures { OnTrue result (Moves self.old.stage self.old self.new) }
+    fn moves<W: Wires>(&mut self, wires: &mut W, buffer: &mut [u8]) -> Result<bool, AllocError>
+        ensures { IfOk result (λ there. OnTrue there (Moves self.old.stage self.old self.new)) }
     {
         match self.stage {
-            Stage::Writing(..) => self.write(wires),
-            Stage::Reading if self.is_fresh => true,
+            Stage::Writing(..) => Ok(self.write(wires)),
+            Stage::Reading if self.is_fresh => Ok(true),
             Stage::Reading => self.read(wires, buffer),
-            Stage::Waiting(_) => true,
-            Stage::Over => false,
+            Stage::Waiting(_) => Ok(true),
+            Stage::Over => Ok(false),
         }
     }
 
@@ -405,7 +426,7 @@ impl HttpConnection {
         let words = state.words_of_begun(self.came.as_slice())?;
         let written = state.too_late(notes.date())?;
         notes.count(&written);
-        notes.tell(self.peer, words.as_str(), self.since, written.status)?;
+        notes.tell(self.peer, words.as_str(), self.since, Some(written.status))?;
         self.is_fresh = false;
         self.is_last = true;
         self.put(written.octets);
@@ -428,9 +449,32 @@ impl HttpConnection {
         }
     }
 
+    // Its turn at an instant, for which there may be no memory.
+    fn try_turn<W: Wires>(
+        &mut self,
+        wires: &mut W,
+        buffer: &mut [u8],
+        state: &HttpState,
+        notes: &mut Notes,
+        now: Option<Instant>,
+    ) -> Result<bool, AllocError>
+        ensures { IfOk result (λ there. OnTrue there (Turns state.now.guard now self.old self.new)) }
+    {
+        let is_there = self.moves(wires, buffer)?;
+        if !is_there {
+            return Ok(false);
+        }
+        if self.is_late(now) && self.came.is_empty() {
+            return Ok(false);
+        }
+        self.begin_wait(now);
+        self.take_or_refuse(state, notes, now)?;
+        Ok(true)
+    }
+
     /// Its turn at an instant: a response is written, or what comes is read, and taken up, unless it is
     /// late. The answer is whether the connection is still there: one on which nothing has come in the
-    /// time that a head has is not.
+    /// time that a head has is not, nor one for which there is no memory, as is noted.
     pub fn turn<W: Wires>(
         &mut self,
         wires: &mut W,
@@ -441,13 +485,13 @@ impl HttpConnection {
     ) -> bool
         ensures { OnTrue result (Turns state.now.guard now self.old self.new) }
     {
-        if !self.moves(wires, buffer) {
-            return false;
+        match self.try_turn(wires, buffer, state, notes, now) {
+            Ok(is_there) => is_there,
+            Err(AllocError) => {
+                self.read_sender(state);
+                let _ = notes.tell_unread(self.peer, self.since);
+                false
+            }
         }
-        if self.is_late(now) && self.came.is_empty() {
-            return false;
-        }
-        self.begin_wait(now);
-        matches!(self.take_or_refuse(state, notes, now), Ok(()))
     }
 }

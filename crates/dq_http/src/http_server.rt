@@ -3,11 +3,11 @@ ghost use Rattle.std.specs.Prelude.{◌≡◌, [], length, option_copied, IfOk};
 ghost use Rattle.std.specs.List.{filter, list_any};
 ghost use Rattle.dq_http.specs.HttpConnections.{asks_report, is_busy};
 ghost use Rattle.dq_http.specs.Places.{is_of, is_crowded, LetsIn, LetsOneIn, with_room, LeavesRoom};
-ghost use Rattle.dq_http.specs.RequestQueue.{first_waiting, next_of, Answered, LetsGo, Attended, with_keys};
+ghost use Rattle.dq_http.specs.RequestQueue.{first_waiting, next_of, Answered, LetsGo, LetsGoAs, Attended, with_keys};
 
 use crate::http_connection::HttpConnection;
 use crate::http_state::HttpState;
-use crate::request_log::Notes;
+use crate::request_log::{Notes, Sender};
 use dq_request::{Request, Response};
 use dq_web::{Counters, Keys};
 use dq_wires::{GivenUp, GivesUp, READ_MOST, Reason, Wires};
@@ -87,8 +87,8 @@ impl<W: Wires + GivesUp + Drop> HttpServer<W> {
         self.connections.get(at)?.asked()
     }
 
-    /// Answers the request that waits first. Its connection is then the last to be answered, and all
-    /// others are as they were.
+    /// Answers the request that waits first, and notes that. Its connection is then the last to be answered, and
+    /// all others are as they were.
     pub fn answer(&mut self, response: &Response)
         ensures { Answered self.old self.new response.now }
     {
@@ -96,20 +96,28 @@ impl<W: Wires + GivesUp + Drop> HttpServer<W> {
             return;
         };
         if let Some(connection) = self.connections.get_mut(at) {
-            connection.answer(response, &self.state, &mut self.notes);
+            let _ = connection.answer(response, &self.state, &mut self.notes);
             self.connections.rotate_left(at + 1);
         }
     }
 
-    /// Lets the connection go whose request waits first, unanswered. All others are as they were.
+    /// Lets the connection go whose request waits first, unanswered, and notes that. All others are as they were.
     pub fn let_go(&mut self)
         ensures { LetsGo (W.log self.old.wires) (W.log self.new.wires) self.old self.new }
     {
+        let _ = self.try_let_go();
+    }
+
+    // The same. An error says that there is no memory for the note.
+    fn try_let_go(&mut self) -> Result<(), AllocError>
+        ensures { LetsGoAs result (W.log self.old.wires) (W.log self.new.wires) self.old self.new }
+    {
         let Some(at) = self.first_waiting() else {
-            return;
+            return Ok(());
         };
         let connection = self.connections.remove(at);
         let _ = self.wires.shut(connection.place);
+        connection.tell(None, &mut self.notes)
     }
 
     /// Whether a request waits that asks for metrics.
@@ -237,6 +245,7 @@ impl<W: Wires + GivesUp + Drop> HttpServer<W> {
         if self.connections.push(connection).is_ok() {
             return;
         }
+        let _ = self.notes.tell_unread(Sender::direct(peer), now);
         let _ = self.wires.shut(place);
     }
 

@@ -1,9 +1,9 @@
 //! The log's note of a request.
-ghost use Rattle.std.specs.Prelude.{◌≡◌, ◌++◌, ◌==◌, [], None, position, string_bytes, take, IfOk, OnOk};
+ghost use Rattle.std.specs.Prelude.{◌≡◌, ◌++◌, ◌==◌, [], None, codes, position, string_bytes, take, IfOk, OnErr, OnOk};
 ghost use Rattle.std.specs.List.{list_all};
 ghost use Rattle.dq_web.specs.Counting.{with_request};
 ghost use Rattle.dq_wires.specs.LogWords.{peer_text};
-ghost use Rattle.dq_http.specs.Notes.{told_octet, told_text, is_of_name, path_of, parts_of, words_text, sender_text, has_address, HasNote};
+ghost use Rattle.dq_http.specs.Notes.{told_octet, told_text, is_of_name, path_of, parts_of, words_text, sender_text, outcome_text, direct_sender, has_address, HasNote};
 
 use dq_web::{Head, RequestCounts, Status, Written};
 use dq_wires::GivenUp;
@@ -119,6 +119,18 @@ pub(crate) struct Sender {
     pub forwarded: Option<IpAddr>,
 }
 
+impl Sender {
+    /// A peer for whom no proxy has spoken.
+    pub fn direct(peer: Option<SocketAddr>) -> Self
+        ensures { result ≡ direct_sender peer }
+    {
+        Sender {
+            address: peer,
+            forwarded: None,
+        }
+    }
+}
+
 /// Whether a peer has an address.
 pub(crate) fn has_address(peer: Option<SocketAddr>, address: IpAddr) -> bool
     ensures { result ≡ has_address peer address }
@@ -150,7 +162,17 @@ fn sender_text(alloc: Global, sender: Sender) -> Result<String, AllocError>
     }
 }
 
-/// A clock, the notes of requests that were answered, a line each, and how many there were.
+/// The outcome of a request: the status code of its response, or that there is no memory for one.
+fn outcome_text(alloc: Global, status: Option<Status>) -> Result<String, AllocError>
+    ensures { IfOk result (λ text. string_bytes text ≡ outcome_text status) }
+{
+    match status {
+        Some(status) => format!(in alloc; "{}", status.code()),
+        None => String::from_str(alloc, "no memory"),
+    }
+}
+
+/// A clock, the notes of requests, a line each, and how many were answered.
 #[derive(Drop)]
 pub(crate) struct Notes {
     alloc: Global,
@@ -201,26 +223,36 @@ impl Notes {
         self.requests
     }
 
-    /// Adds a note of a peer's request that was whole at an instant, and of the status of its response.
+    /// Adds a note of a peer's request that was whole at an instant, and of the status of its response, or that
+    /// there is no memory for one.
     pub fn tell(
         &mut self,
         peer: Sender,
         words: &str,
         begun: Option<Instant>,
-        status: Status,
+        status: Option<Status>,
     ) -> Result<(), AllocError>
         ensures line { OnOk result (HasNote peer words.now status (string_bytes self.old.lines)
             (string_bytes self.new.lines)) }
+        ensures lost { OnErr result (string_bytes self.new.lines ≡ string_bytes self.old.lines) }
         ensures requests { self.new.requests ≡ self.old.requests }
     {
         let milliseconds = match (begun, self.now()) {
             (Some(begun), Some(now)) => now.duration_since(begun).as_millis(),
             _ => 0,
         };
-        let code = status.code();
+        let outcome = outcome_text(self.alloc, status)?;
         let peer = sender_text(self.alloc, peer)?;
-        let line = format!(in self.alloc; "{peer} {words} {code} ms {milliseconds}\n")?;
+        let line = format!(in self.alloc; "{peer} {words} {outcome} ms {milliseconds}\n")?;
         self.lines.push_str(line.as_str())
+    }
+
+    /// Adds a note of a peer that is let go before its request is read, for want of memory.
+    pub fn tell_unread(&mut self, peer: Sender, begun: Option<Instant>) -> Result<(), AllocError>
+        ensures { OnOk result (HasNote peer (codes "- - - -") None (string_bytes self.old.lines)
+            (string_bytes self.new.lines)) }
+    {
+        self.tell(peer, UNREADABLE, begun, None)
     }
 
     /// Adds a note of a connection that was closed when it came, if one was.

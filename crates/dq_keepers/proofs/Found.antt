@@ -53,16 +53,6 @@ reopened s rows it = record {
   sound = it.sound;
 }
 
--- Of tables over a store that was opened again: they have each list of rows that it was shown to hold.
-pub adopted : {T E : Type 0} (IsHonest : T → Type 0) (rows_of : T → List Row) (AreThere : List Row → Type 0) {IsPlace : Type 0}
-    (s : State) → ((rows : List Row) → IsPlace → AreThere rows → HasCleanDisk s → IsReopened s rows)
-    → (r : Result T E) → IfOk r (λ t. IsHonest t → HasCleanDisk s)
-    → ((rows : List Row) → IsReopened s rows → IfOk r (λ t. IsHonest t → rows_of t ≡ rows))
-    → IfOk r (λ t. IsHonest t → (rows : List Row) → IsPlace → AreThere rows → rows_of t ≡ rows)
-adopted IsHonest rows_of AreThere s shown (Ok t) clean again =
-    λ honest rows is there. again rows (shown rows is there (clean honest)) honest
-adopted IsHonest rows_of AreThere s shown (Err e) clean again = tt
-
 -- A database has one list of rows of a version.
 one_list : (version : Version) (d : Database) (xs ys : List Row) → HasRowsOf version d xs → HasRowsOf version d ys → xs ≡ ys
 one_list version d xs ys p q =

@@ -11,6 +11,7 @@ ghost use Rattle.sqlite.specs.Files.{file_state, IsOpened};
 ghost use Rattle.sqlite.specs.Start.{FindsIn};
 
 use crate::paths::make_private;
+use dq_counts::CountedTables;
 use dq_sql::SqlTables;
 use sqlite::{Connection, Error, FileFrom, FileStore, Start};
 use sqlite_disk::Disk;
@@ -18,8 +19,8 @@ use sqlite_disk::Disk;
 /// A connection to the two files of a store.
 pub(crate) type HostConnection<D> = Connection<FileStore<D>>;
 
-/// Rows in the two files of a store.
-pub type HostTables<D> = SqlTables<FileStore<D>>;
+/// Rows in the two files of a store, and how many there are.
+pub type HostTables<D> = CountedTables<SqlTables<FileStore<D>>>;
 
 /// A disk of the machine, where one path is singled out. No code can know what the files there hold.
 /// What is proved over `D: HostDisk` is proved whichever path that is and whatever they hold.

@@ -16,6 +16,7 @@ use crate::copy_fault::CopyFault;
 use crate::host_disk::{HostConnection, HostDisk, HostTables};
 use crate::paths::{check_free, log_path, octets_at, tell_writing};
 use dq_core::laws::rows_stay_sound;
+use dq_counts::CountedTables;
 use dq_sql::{MigrateFault, SqlTables, StoreFault};
 use dq_tables::Tables;
 use sqlite::{Error, Files};
@@ -33,7 +34,8 @@ pub fn create_store<D: HostDisk>(
     ensures settled { IfOk result (λ t. (⟦<HostTables<D> as Tables>⟧.state t).honest
         → IsSettled (⟦<HostTables<D> as Tables>⟧.state t)) }
 {
-    SqlTables::open(alloc, D::open(rt, path)?)
+    let tables = SqlTables::open(alloc, D::open(rt, path)?)?;
+    Ok(CountedTables::new(tables))
 }
 
 /// Opens a connection to files that are there. It shows the rows that they hold.
@@ -65,7 +67,8 @@ pub fn open_store<D: HostDisk>(
 {
     rows_stay_sound();
     octets_at(rt, path)?;
-    SqlTables::adopt(alloc, connect(rt, path)?)
+    let tables = SqlTables::adopt(alloc, connect(rt, path)?)?;
+    Ok(CountedTables::new(tables))
 }
 
 /// Opens connections to the files of an old store and to those of a new one. The old ones are locked
@@ -98,7 +101,7 @@ pub fn migrate_store<D: HostDisk>(
     let (mut old, new) = connect_both(rt, from, to)?;
     tell_writing(rt, to, octets);
     match SqlTables::migrate_lent(alloc, &mut old, new) {
-        Ok(tables) => Ok(tables),
+        Ok(tables) => Ok(CountedTables::new(tables)),
         Err((fault, _)) => Err(fault),
     }
 }
@@ -122,7 +125,7 @@ pub fn copy_store<D: HostDisk>(
     let (mut old, new) = connect_both::<D>(rt, from, to)?;
     tell_writing(rt, to, octets);
     match SqlTables::copy_lent(alloc, &mut old, new, only) {
-        Ok((tables, count)) => match close_store(tables) {
+        Ok((tables, count)) => match close_store(CountedTables::new(tables)) {
             Ok(()) => Ok(Ok(count)),
             Err(fault) => Ok(Err(fault)),
         },
@@ -158,7 +161,7 @@ fn write_copy<D: HostDisk>(
     ensures copied { (⟦<HostTables<D> as Tables>⟧.state tables.new).honest
         → IfOk result (HaveAlone D.Disk (⟦<HostTables<D> as Tables>⟧.state tables.old).rows) }
 {
-    let filled = match tables.copy_to(alloc, new) {
+    let filled = match tables.tables.copy_to(alloc, new) {
         Ok(filled) => filled,
         Err((fault, left)) => return Err(fault_of_copy(fault, left)),
     };
@@ -182,7 +185,7 @@ fn close_copy<D: HostDisk>(filled: HostConnection<D>) -> Result<Files<D>, Error>
 pub fn close_store<D: HostDisk>(tables: HostTables<D>) -> Result<(), StoreFault>
     ensures { OnOk result (IsClosed D.Disk (⟦<HostTables<D> as Tables>⟧.state tables).rows) }
 {
-    let _files = tables.close()?;
+    let _files = tables.into_inner().close()?;
     Ok(())
 }
 

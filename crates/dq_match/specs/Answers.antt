@@ -1,5 +1,5 @@
 -- How a query is answered (PS3.4 sections C.4.1 and K.4.1).
-use Rattle.std.specs.Prelude.{ℕ, false, [], take, drop, Option, Some, None, if◌then◌else◌}
+use Rattle.std.specs.Prelude.{ℕ, false, [], Option, Some, None, if◌then◌else◌}
 use Rattle.dq_dataset.specs.Tree.{ElementList}
 use Rattle.dq_match.specs.declared.responses.Found.{Found}
 use Rattle.dq_match.specs.Matching.{fits}
@@ -12,12 +12,3 @@ refused_with status = record { status = status; optional = false; answers = [] }
 -- what the keys are shown of a record, where it fits them
 abbrev pub answer_to_keys : ElementList → ElementList → Option ElementList
 answer_to_keys keys held = if fits keys held then Some (shown_data_set keys held) else None
-
--- A part of what was found: the answers from a place on are given, at most so many. A refusal has
--- none.
-abbrev pub found_part : ℕ → ℕ → Found → Found
-found_part from most found = record {
-  status = found.status;
-  optional = found.optional;
-  answers = take most (drop from found.answers);
-}

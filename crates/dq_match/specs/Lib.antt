@@ -20,3 +20,4 @@ pub mod Prepared
 pub mod PreparedFalls
 pub mod Answers
 pub mod Parts
+pub mod ShownPages

@@ -8,7 +8,7 @@ use Rattle.dq_vr.specs.Dictionary.{known_vr}
 use Rattle.dq_json.specs.Keywords.{tag_named}
 use Rattle.dq_request.specs.declared.search.Key.{Key}
 use Rattle.dq_request.specs.declared.search.Search.{Search}
-use Rattle.dq_request.specs.Searches.{has_spellings, SpellsShort, GivesValue, GivesKey, HasEquals, name_in, text_in, TakesLimit, TakesOffset, TakesKey, TakesNamed, TakesWord, RefusesWord}
+use Rattle.dq_request.specs.Searches.{has_spellings, SpellsShort, GivesValue, GivesKey, HasEquals, name_in, text_in, TakesLimit, TakesOffset, TakesAfter, TakesKey, TakesNamed, TakesWord, RefusesWord}
 
 no_text : (vr : Vr) → vr ≡ US → is_text vr ≡ true → ⊥
 unfolding is_text
@@ -48,20 +48,36 @@ no_key name text tag vr named known none it gives =
 apart : codes "limit" ≡ codes "offset" → ⊥
 apart same = let first : ◌≡◌ {A = ℕ} 108 111 = ap (λ (letters : List ℕ). get_or letters 0 0) same in omega arith
 
+limit_not_after : codes "limit" ≡ codes "after" → ⊥
+limit_not_after same = let first : ◌≡◌ {A = ℕ} 108 97 = ap (λ (letters : List ℕ). get_or letters 0 0) same in omega arith
+
+offset_not_after : codes "offset" ≡ codes "after" → ⊥
+offset_not_after same = let first : ◌≡◌ {A = ℕ} 111 97 = ap (λ (letters : List ℕ). get_or letters 0 0) same in omega arith
+
 limit_only : (name text : List ℕ) (old new : Search) → name ≡ codes "limit" → TakesNamed name text old new → TakesLimit text old new
 limit_only name text old new is (inl (named, takes)) = takes
 limit_only name text old new is (inr (inl (named, takes))) = absurd (apart (sym is ∙ named))
-limit_only name text old new is (inr (inr (no_limit, no_offset, takes))) = absurd (no_limit is)
+limit_only name text old new is (inr (inr (inl (named, takes)))) = absurd (limit_not_after (sym is ∙ named))
+limit_only name text old new is (inr (inr (inr (no_limit, no_offset, no_after, takes)))) = absurd (no_limit is)
 
 offset_only : (name text : List ℕ) (old new : Search) → name ≡ codes "offset" → TakesNamed name text old new → TakesOffset text old new
 offset_only name text old new is (inl (named, takes)) = absurd (apart (sym named ∙ is))
 offset_only name text old new is (inr (inl (named, takes))) = takes
-offset_only name text old new is (inr (inr (no_limit, no_offset, takes))) = absurd (no_offset is)
+offset_only name text old new is (inr (inr (inl (named, takes)))) = absurd (offset_not_after (sym is ∙ named))
+offset_only name text old new is (inr (inr (inr (no_limit, no_offset, no_after, takes)))) = absurd (no_offset is)
 
-key_only : (name text : List ℕ) (old new : Search) → name ≢ codes "limit" → name ≢ codes "offset" → TakesNamed name text old new → TakesKey name text old new
-key_only name text old new no_limit no_offset (inl (named, takes)) = absurd (no_limit named)
-key_only name text old new no_limit no_offset (inr (inl (named, takes))) = absurd (no_offset named)
-key_only name text old new no_limit no_offset (inr (inr (other, another, takes))) = takes
+after_only : (name text : List ℕ) (old new : Search) → name ≡ codes "after" → TakesNamed name text old new → TakesAfter text old new
+after_only name text old new is (inl (named, takes)) = absurd (limit_not_after (sym named ∙ is))
+after_only name text old new is (inr (inl (named, takes))) = absurd (offset_not_after (sym named ∙ is))
+after_only name text old new is (inr (inr (inl (named, takes)))) = takes
+after_only name text old new is (inr (inr (inr (no_limit, no_offset, no_after, takes)))) = absurd (no_after is)
+
+key_only : (name text : List ℕ) (old new : Search) → name ≢ codes "limit" → name ≢ codes "offset" → name ≢ codes "after"
+    → TakesNamed name text old new → TakesKey name text old new
+key_only name text old new no_limit no_offset no_after (inl (named, takes)) = absurd (no_limit named)
+key_only name text old new no_limit no_offset no_after (inr (inl (named, takes))) = absurd (no_offset named)
+key_only name text old new no_limit no_offset no_after (inr (inr (inl (named, takes)))) = absurd (no_after named)
+key_only name text old new no_limit no_offset no_after (inr (inr (inr (other, another, third, takes)))) = takes
 
 pub limit_taken : (b : Bool) (name text : List ℕ) (old new : Search) → name ≡ codes "limit"
     → MatchBool b (TakesLimit text old new) (((next : Search) → TakesLimit text old next → ⊥) × (new ≡ old))
@@ -75,12 +91,19 @@ pub offset_taken : (b : Bool) (name text : List ℕ) (old new : Search) → name
 offset_taken true name text old new is takes = inr (inl (is, takes))
 offset_taken false name text old new is refuses = (λ next takes. refuses.0 next (offset_only name text old next is takes), refuses.1)
 
-pub key_taken : {E : Type 0} (r : Result Bool E) (name text : List ℕ) (old new : Search) → name ≢ codes "limit" → name ≢ codes "offset"
+pub after_taken : {E : Type 0} (r : Result Bool E) (name text : List ℕ) (old new : Search) → name ≡ codes "after"
+    → IfOk r (λ b. MatchBool b (TakesAfter text old new) (((next : Search) → TakesAfter text old next → ⊥) × (new ≡ old)))
+    → IfOk r (λ b. MatchBool b (TakesNamed name text old new) (((next : Search) → TakesNamed name text old next → ⊥) × (new ≡ old)))
+after_taken (Err e) name text old new is taken = tt
+after_taken (Ok true) name text old new is takes = inr (inr (inl (is, takes)))
+after_taken (Ok false) name text old new is refuses = (λ next takes. refuses.0 next (after_only name text old next is takes), refuses.1)
+
+pub key_taken : {E : Type 0} (r : Result Bool E) (name text : List ℕ) (old new : Search) → name ≢ codes "limit" → name ≢ codes "offset" → name ≢ codes "after"
     → IfOk r (λ b. MatchBool b (TakesKey name text old new) (((next : Search) → TakesKey name text old next → ⊥) × (new ≡ old)))
     → IfOk r (λ b. MatchBool b (TakesNamed name text old new) (((next : Search) → TakesNamed name text old next → ⊥) × (new ≡ old)))
-key_taken (Err e) name text old new no_limit no_offset is = tt
-key_taken (Ok true) name text old new no_limit no_offset takes = inr (inr (no_limit, no_offset, takes))
-key_taken (Ok false) name text old new no_limit no_offset refuses = (λ next takes. refuses.0 next (key_only name text old next no_limit no_offset takes), refuses.1)
+key_taken (Err e) name text old new no_limit no_offset no_after is = tt
+key_taken (Ok true) name text old new no_limit no_offset no_after takes = inr (inr (inr (no_limit, no_offset, no_after, takes)))
+key_taken (Ok false) name text old new no_limit no_offset no_after refuses = (λ next takes. refuses.0 next (key_only name text old next no_limit no_offset no_after takes), refuses.1)
 
 pub word_taken : {E : Type 0} (r : Result Bool E) (word name text : List ℕ) (old new : Search) → HasEquals word → name ≡ name_in word → text ≡ text_in word
     → IfOk r (λ b. MatchBool b (TakesNamed name text old new) (((next : Search) → TakesNamed name text old next → ⊥) × (new ≡ old)))

@@ -1,5 +1,5 @@
 -- How words give a search its keys and its page, and the identifier that asks for them.
-use Rattle.std.specs.Prelude.{◌≡◌, ◌≢◌, ◌⊎◌, ◌==◌, ◌<◌, ◌≤◌, ◌^◌, ◌&&◌, not, ℕ, Bool, true, false, if◌then◌else◌, List, [], ◌∷◌, ◌++◌, length, map, flat_map, filter, find, option_map, option_to_list, unwrap_or, codes, Option, Some, None}
+use Rattle.std.specs.Prelude.{◌≡◌, ◌≢◌, ◌⊎◌, ◌==◌, ◌<◌, ◌≤◌, ◌^◌, ◌&&◌, not, ℕ, Bool, true, false, IsTrue, if◌then◌else◌, List, [], ◌∷◌, ◌++◌, length, map, flat_map, filter, find, option_map, option_to_list, unwrap_or, codes, Option, Some, None}
 use Rattle.std.specs.List.{position_or_len, before_first, after_first, slice_split, join_with_byte}
 use Rattle.std.specs.Str.{is_utf8}
 use Rattle.std.specs.Int.{w16, to_le_bytes}
@@ -112,6 +112,18 @@ abbrev pub TakesOffset : List ℕ → Search → Search → Type 0
 TakesOffset text old new = (number : ℕ) × IsNumber (2 ^ 64) text number
     × (new ≡ record old { page = record { offset = number; limit = old.page.limit } })
 
+-- a page of a search may begin after a unique key (PS3.4 section C.6.2.1): one of studies, series or images of a series
+abbrev pub pages_by_key : Subject → Bool
+pages_by_key Studies = true
+pages_by_key Series = true
+pages_by_key Images = true
+pages_by_key subject = false
+
+-- A text says, in octets, the unique key after which the page begins. A later one takes the place of an earlier.
+abbrev pub TakesAfter : List ℕ → Search → Search → Type 0
+TakesAfter text old new = IsTrue (pages_by_key old.subject) × (length (percent_decode text) ≤ value_most)
+    × (new ≡ record old { after = Some (percent_decode text) })
+
 -- there is a key more, behind the others
 abbrev pub with_key : Key → Search → Search
 with_key key search = record search { keys = search.keys ++ key ∷ [] }
@@ -121,11 +133,12 @@ abbrev pub TakesKey : List ℕ → List ℕ → Search → Search → Type 0
 TakesKey name text old new = (old.subject ≢ Steps)
     × ((key : Key) × GivesKey name text key × (new ≡ with_key key old))
 
--- a name and a text are taken: a number of the page, or a key
+-- a name and a text are taken: what the page shows, or a key
 abbrev pub TakesNamed : List ℕ → List ℕ → Search → Search → Type 0
 TakesNamed name text old new = ((name ≡ codes "limit") × TakesLimit text old new)
     ⊎ (((name ≡ codes "offset") × TakesOffset text old new)
-    ⊎ ((name ≢ codes "limit") × (name ≢ codes "offset") × TakesKey name text old new))
+    ⊎ (((name ≡ codes "after") × TakesAfter text old new)
+    ⊎ ((name ≢ codes "limit") × (name ≢ codes "offset") × (name ≢ codes "after") × TakesKey name text old new)))
 
 -- a word NAME=TEXT is taken
 abbrev pub TakesWord : List ℕ → Search → Search → Type 0

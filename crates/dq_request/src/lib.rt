@@ -11,4 +11,4 @@ mod spelled_values;
 
 pub use request::Request;
 pub use response::{BackupError, Cause, Counted, Counts, Response};
-pub use search::{Key, Search, ShownPage, Subject};
+pub use search::{Key, Search, Subject};

@@ -1,14 +1,15 @@
 //! Searches of what an institution keeps: by keys, and a page at a time.
-ghost use Rattle.std.specs.Prelude.{◌≡◌, ◌≢◌, ◌<◌, ◌≤◌, ◌^◌, ℕ, List, [], length, option_copied, find, Some, IfOk, IfSome, MatchOption, MatchBool};
+ghost use Rattle.std.specs.Prelude.{◌≡◌, ◌≢◌, ◌<◌, ◌≤◌, ◌^◌, ℕ, List, [], length, option_copied, find, Some, None, IfOk, IfSome, MatchOption, MatchBool};
 ghost use Rattle.percent_encoding.specs.Percent.{percent_decode};
 ghost use Rattle.dq_request.specs.declared.search.Subject.TheVariants.{Steps};
-ghost use Rattle.dq_request.specs.Searches.{IsNumber, SpellsShort, SpellsOctets, uid_octet, SpellsUids, SpellsText, has_spellings, GivesValue, GivesKey, HasEquals, name_in, text_in, TakesLimit, TakesOffset, TakesKey, TakesNamed, TakesWord, RefusesWord, GivesOctets, value_most, identifier_of};
+ghost use Rattle.dq_request.specs.Searches.{IsNumber, SpellsShort, SpellsOctets, uid_octet, SpellsUids, SpellsText, has_spellings, GivesValue, GivesKey, HasEquals, name_in, text_in, pages_by_key, TakesLimit, TakesOffset, TakesAfter, TakesKey, TakesNamed, TakesWord, RefusesWord, GivesOctets, value_most, identifier_of};
 
 use crate::identifier::{asked_identifier, worklist_identifier};
 use crate::spelled_values::in_spellings;
 use dq_dataset::DataSet;
 use dq_json::tag_named;
 use dq_list::Listed;
+use dq_match::ShownPage;
 use dq_vr::{Tag, Vr, lookup};
 use percent_encoding::percent_decode;
 use std::alloc::{AllocError, Global};
@@ -29,18 +30,20 @@ pub enum Subject {
     Steps,
 }
 
+impl Subject {
+    /// Whether a page of such a search may begin after a unique key.
+    pub fn pages_by_key(self) -> bool
+        ensures { result ≡ pages_by_key self }
+    {
+        matches!(self, Subject::Studies | Subject::Series | Subject::Images)
+    }
+}
+
 /// An attribute, and the value that it is to match, before that is padded.
 #[derive(Debug, Drop)]
 pub struct Key {
     pub tag: Tag,
     pub value: Listed<u8>,
-}
-
-/// A page: what comes after so many, and of that no more than the limit, nor than 1,000.
-#[derive(Clone, Copy, Debug, PartialEq, Eq)]
-pub struct ShownPage {
-    pub offset: usize,
-    pub limit: usize,
 }
 
 /// A search of what an institution keeps: the keys that it is to match, and the page that is shown.
@@ -49,6 +52,8 @@ pub struct Search {
     pub subject: Subject,
     pub institution: Listed<u8>,
     pub keys: Listed<Key>,
+    /// The unique key after which the rows of its pages begin; with none they begin with the first.
+    pub after: Option<Listed<u8>>,
     pub page: ShownPage,
 }
 
@@ -173,6 +178,7 @@ impl Search {
           subject = subject;
           institution = institution;
           keys = [];
+          after = None;
           page = record { offset = 0; limit = limit };
         } }
     {
@@ -180,12 +186,14 @@ impl Search {
             subject,
             institution,
             keys: Listed::empty(alloc),
+            after: None,
             page: ShownPage { offset: 0, limit },
         }
     }
 
-    /// Takes a word: `KEYWORD=VALUE`, or a number of the page, `limit=N` or `offset=N`. The answer is whether it
-    /// is one. Of several keys of an attribute the first counts, and steps have no keys.
+    /// Takes a word: `KEYWORD=VALUE`, a number of the page, `limit=N` or `offset=N`, or the unique key after which
+    /// it begins, `after=UID`. The answer is whether it is one. Of several keys of an attribute the first counts;
+    /// steps have no keys, and only studies, series and images of a series have pages that begin after one.
     pub fn take_word(&mut self, alloc: Global, word: &str) -> Result<bool, AllocError>
         ensures { IfOk result (λ is_taken. MatchBool is_taken (TakesWord word.now self.old self.new)
             (RefusesWord word.now self.old × (self.new ≡ self.old))) }
@@ -205,6 +213,9 @@ impl Search {
         }
         if name == "offset" {
             return Ok(self.take_offset(text));
+        }
+        if name == "after" {
+            return self.take_after(alloc, text);
         }
         self.take_key(alloc, name, text)
     }
@@ -229,6 +240,20 @@ impl Search {
         };
         self.page.offset = number;
         true
+    }
+
+    fn take_after(&mut self, alloc: Global, text: &str) -> Result<bool, AllocError>
+        ensures { IfOk result (λ is_taken. MatchBool is_taken (TakesAfter text.now self.old self.new)
+            (((new : Search) → TakesAfter text.now self.old new → ⊥) × (self.new ≡ self.old))) }
+    {
+        if !self.subject.pages_by_key() {
+            return Ok(false);
+        }
+        let Some(key) = octets_of(alloc, text)? else {
+            return Ok(false);
+        };
+        self.after = Some(key);
+        Ok(true)
     }
 
     fn take_key(&mut self, alloc: Global, name: &str, text: &str) -> Result<bool, AllocError>

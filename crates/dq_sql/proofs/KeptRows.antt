@@ -16,9 +16,7 @@ use Rattle.dq_sql.specs.FirstRows.{IsFilled}
 use Rattle.dq_sql.specs.RowReads.{HoldsOf}
 use Rattle.dq_sql.specs.RowWrites.{IsMade, IsUndone, Commits}
 use Rattle.dq_sql.specs.KeptRows.{KeepsSoundRows, MayLeave, under_schema}
-use Rattle.dq_sql.specs.OneContent.{one_list, kept_sound}
-use Rattle.dq_sql.specs.declared.counts.Counts.{Counts}
-use Rattle.dq_sql.specs.Counts.{AreRight}
+use Rattle.dq_sql.specs.OneContent.{one_list}
 
 pub rows_set : IsSet (List Row)
 rows_set = Coded-set (coded_list the_row.coded)
@@ -36,14 +34,6 @@ if_ok (Err e) P Q f h = tt
 -- what is kept of a connection
 abbrev pub Kept : Connected → List Row → Type 0
 Kept s rows = ∥ (HasCleanDisk s → KeepsSoundRows s rows) ∥₁
-
--- what is remembered of how many rows there are
-abbrev pub Counted : Connected → List Row → Counts → Type 0
-Counted s rows counts = ∥ (HasCleanDisk s → AreRight rows counts) ∥₁
-
--- it is as right after a call that changes no rows
-pub still_counted : (old new : Connected) (rows : List Row) (counts : Counts) {P : Trees → Type 0} → Survives old new P → Counted old rows counts → Counted new rows counts
-still_counted old new rows counts survives counted = ∥∥₁_map counted (λ right clean. right (omega (arith, survives.clean)))
 
 -- what was read of the rows that a connection has is so of the rows that are kept
 pub found_in : {X : Type 0} → IsSet X → (s : Connected) (rows : List Row) (f : List Row → X) (x : X) → Kept s rows → HasCleanDisk s → HoldsOf s (λ r. x ≡ f r) → x ≡ f rows
@@ -122,16 +112,6 @@ module _ (old new : Connected) (rows : List Row) where
           | inr commits ↦ inr (∥∥₁_elim kept (rows_set r changed) (λ k.
               one_list (under_schema left.trees) r changed left.has (committed_rows left.trees (fits before) (k before) commits)))
         ]
-
--- and so it is of a change that it follows
-pub followed_counted : (old new : Connected) (rows : List Row) (change : Change) (before after_it : Counts) {P : Trees → Type 0} → Survives old new P → Kept old rows
-    → (HasCleanDisk old → ChangeFits rows change) → Counted old rows before
-    → (IsRising rows → ChangeFits rows change → AreRight rows before → AreRight (after (operation_of change) rows) after_it)
-    → Counted new (after (operation_of change) rows) after_it
-followed_counted old new rows change before after_it survives kept fits counted follows =
-    ∥∥₁_map counted (λ right clean.
-    let was : HasCleanDisk old = omega (arith, survives.clean) in
-    follows (kept_sound old rows kept was).rising (fits was) (right was))
 
 pub no_rows_sound : IsSound []
 unfolding IsRising

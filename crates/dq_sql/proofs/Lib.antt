@@ -1,5 +1,4 @@
 mod AddedRows
-mod RightCounts
 mod CountQueries
 mod FirstRows
 mod FoundRows

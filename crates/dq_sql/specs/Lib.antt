@@ -11,7 +11,6 @@ pub mod KeptRows
 pub mod OneContent
 pub mod FoundStores
 pub mod StoreCopies
-pub mod Counts
 pub mod FirstRows
 pub mod MigratedRows
 pub mod Migration

@@ -4,7 +4,6 @@
 mod adoption;
 mod cells;
 mod copied_store;
-mod counts;
 mod fault;
 mod first_rows;
 mod found_store;

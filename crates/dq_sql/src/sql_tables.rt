@@ -7,13 +7,11 @@ ghost use Rattle.dq_tables.specs.declared.fault.TableFault.TheVariants.{Store};
 ghost use Rattle.dq_tables.specs.declared.row.Row.{Row};
 ghost use Rattle.dq_sql.specs.KeptRows.{KeepsSoundRows, under_schema};
 ghost use Rattle.dq_sql.specs.Tie.{HasRows};
-ghost use Rattle.dq_sql.specs.Counts.{AreRight};
 ghost use Rattle.dq_sql.specs.Restarts.{ImageHoldsRows, HoldsAlone};
 ghost use Rattle.sqlite_wal.specs.Files.{outcomes};
 ghost use Rattle.sqlite_wal.specs.Reads.{AreClean};
 ghost use Rattle.sqlite_wal.specs.Recovery.{Image};
 
-use crate::counts::Counts;
 use crate::fault::StoreFault;
 use crate::history::History;
 use crate::window::Window;
@@ -32,11 +30,9 @@ pub struct SqlTables<S: Alter> {
     alloc: Global,
     failed: bool,
     pub(crate) history: History,
-    counts: Counts,
     ghost alone: { conn.in_transaction ≡ false },
     ghost keeps: { ∥ (HasCleanDisk (state S.Store conn)
         → KeepsSoundRows (state S.Store conn) history.rows) ∥₁ },
-    ghost counted: { ∥ (HasCleanDisk (state S.Store conn) → AreRight history.rows counts) ∥₁ },
 }
 
 /// The answer, whose failure of the store is noted.
@@ -67,7 +63,6 @@ impl<S: Alter> SqlTables<S> {
             alloc,
             failed: false,
             history: History::from_rows(rows),
-            counts: Counts::new(alloc),
         }
     }
 
@@ -90,7 +85,6 @@ impl<S: Alter> SqlTables<S> {
             alloc: _,
             failed: _,
             history: _,
-            counts: _,
         } = self;
         conn
     }
@@ -210,13 +204,8 @@ impl<S: Alter> Tables for SqlTables<S> {
     }
 
     fn count(&mut self, kind: Kind, institution: &[u8]) -> Result<u64, TableFault> {
-        if let Some(number) = self.counts.get(kind, institution) {
-            return Ok(number);
-        }
         let answer = row_reader::count(&mut self.conn, kind, institution);
-        let number = noted(&mut self.failed, answer)?;
-        self.counts.note(self.alloc, kind, institution, number)?;
-        Ok(number)
+        noted(&mut self.failed, answer)
     }
 
     fn count_above(
@@ -237,7 +226,6 @@ impl<S: Alter> Tables for SqlTables<S> {
         match row_writer::commit(&mut self.conn, self.alloc, change) {
             Ok(()) => {
                 self.history = self.history.then(change);
-                self.counts.follow(change);
                 Ok(())
             }
             Err(fault) => noted(&mut self.failed, Err(fault)),

@@ -66,7 +66,7 @@ IsSearchAt-owner resource start at = absurd at
 Searching-owner : (resource : Resource) (query : List ℕ) (request : Request) → Searching resource query request
     → owner_of_request request ≡ owner_of resource
 Searching-owner resource query (ask.Search search) searching =
-    TakesWords-institution (words_in query) searching.0 search searching.2
+    TakesWords-institution (words_in searching.0.subject query) searching.0 search searching.2
     ∙ IsSearchAt-owner resource searching.0 searching.1
 Searching-owner resource query request searching = absurd searching
 
@@ -212,7 +212,7 @@ IsSearchAt-path resource path start at is = absurd is
 
 Looking-searches : (resource : Resource) (query : List ℕ) (request : Request) (search : Search)
     → Looking resource query request → request ≡ ask.Search search
-    → (start : Search) × IsSearchAt resource start × TakesWords (words_in query) start search
+    → (start : Search) × IsSearchAt resource start × TakesWords (words_in start.subject query) start search
 Looking-searches (Counts name) query request search asks is = cc
 Looking-searches Metrics query request search asks is = cc
 Looking-searches resource query request search asks is = subst (Searching resource query) is asks
@@ -220,7 +220,7 @@ Looking-searches resource query request search asks is = subst (Searching resour
 -- what is searched is the search of the path and the query
 pub searches : (verb : Method) (resource : Resource) (query : List ℕ) (by : BodyForm) (body : List ℕ) (request : Request) (search : Search)
     → Asks verb resource query by body request → request ≡ ask.Search search
-    → (start : Search) × IsSearchAt resource start × TakesWords (words_in query) start search
+    → (start : Search) × IsSearchAt resource start × TakesWords (words_in start.subject query) start search
 searches Get resource query by body request search asks is = Looking-searches resource query request search asks is
 searches method.Head resource query by body request search asks is = Looking-searches resource query request search asks is
 searches Post (Worklist name) query by body request search asks is = let same = sym asks.2 ∙ is in cc

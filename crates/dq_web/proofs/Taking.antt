@@ -9,7 +9,8 @@ TakesWord-institution : (word : List ℕ) (old new : Search) → TakesWord word 
 TakesWord-institution word old new takes = elim takes.1 [
   | inl limit ↦ ap (λ (it : Search). it.institution) limit.1.2
   | inr (inl offset) ↦ ap (λ (it : Search). it.institution) offset.1.2
-  | inr (inr key) ↦ ap (λ (it : Search). it.institution) key.2.1.2
+  | inr (inr (inl after)) ↦ ap (λ (it : Search). it.institution) after.1.2
+  | inr (inr (inr key)) ↦ ap (λ (it : Search). it.institution) key.3.1.2
 ]
 
 -- so do words

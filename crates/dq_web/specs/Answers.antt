@@ -8,6 +8,7 @@ use Rattle.dq_dataset.specs.Tree.{ElementList}
 use Rattle.dq_json.specs.declared.json_fault.JsonFault.{JsonFault}
 use Rattle.dq_json.specs.Faults.{fault_text}
 use Rattle.dq_json.specs.Json.{json_tokens}
+use Rattle.dq_match.specs.declared.shown_page.ShownPage.{ShownPage}
 use Rattle.dq_request.specs.declared.request.Request.{Request}
 use Rattle.dq_request.specs.declared.request.Request.TheVariants as ask
 use Rattle.dq_request.specs.declared.response.Cause.{Cause}
@@ -18,7 +19,6 @@ use Rattle.dq_request.specs.declared.response.Response.{Response}
 use Rattle.dq_request.specs.declared.response.Response.TheVariants as told
 use Rattle.dq_request.specs.declared.response.BackupError.{BackupError}
 use Rattle.dq_request.specs.declared.response.BackupError.TheVariants as backup_error
-use Rattle.dq_request.specs.declared.search.ShownPage.{ShownPage}
 use Rattle.dq_request.specs.Responses.{cause_text}
 use Rattle.dq_web.specs.declared.parsed_request.Document.{Document}
 use Rattle.dq_web.specs.declared.parsed_request.Document.TheVariants as document

@@ -1,5 +1,5 @@
 -- The questions that HTTP requests ask of the server.
-use Rattle.std.specs.Prelude.{◌≡◌, ◌⊎◌, ◌==◌, ◌<◌, ℕ, ◌++◌, ◌&&◌, ◌||◌, not, nat_le, Bool, IsTrue, IsFalse, List, [], ◌∷◌, length, filter, codes, string_bytes, is_some, option_copied}
+use Rattle.std.specs.Prelude.{◌≡◌, ◌⊎◌, ◌==◌, ◌<◌, ℕ, ◌++◌, ◌&&◌, ◌||◌, not, nat_le, Bool, false, IsTrue, IsFalse, List, [], ◌∷◌, length, filter, codes, string_bytes, is_some, None, option_copied}
 use Rattle.std.specs.List.{list_all, list_any, slice_split, starts_with}
 use Rattle.std.specs.Option.{option_and_then}
 use Rattle.std.specs.Str.{bytes_eq, is_utf8}
@@ -19,7 +19,7 @@ use Rattle.dq_request.specs.declared.search.Key.{Key}
 use Rattle.dq_request.specs.declared.search.Search.{Search}
 use Rattle.dq_request.specs.declared.search.Subject.{Subject}
 use Rattle.dq_request.specs.declared.search.Subject.TheVariants as subject
-use Rattle.dq_request.specs.Searches.{TakesWords, StopsAt, name_in, value_most}
+use Rattle.dq_request.specs.Searches.{pages_by_key, TakesWords, StopsAt, name_in, value_most}
 use Rattle.dq_web.specs.declared.cutting.BodyForm.{BodyForm}
 use Rattle.dq_web.specs.declared.cutting.BodyForm.TheVariants.{Dicom, DicomJson}
 use Rattle.dq_web.specs.declared.cutting.BodyForm.TheVariants as form
@@ -71,28 +71,33 @@ is_silent part = (length part == 0) || starts_with ◌==◌ part (codes "include
 abbrev pub is_attribute : List ℕ → Bool
 is_attribute name = is_some (option_and_then known_vr (tag_named name))
 
+-- it says what a page shows; pages that begin after a key are those of some subjects
+abbrev pub is_of_page : Subject → List ℕ → Bool
+is_of_page subject name = bytes_eq name (codes "limit") || bytes_eq name (codes "offset")
+    || pages_by_key subject && bytes_eq name (codes "after")
+
 -- it names neither an attribute nor the page
-abbrev pub is_unknown : List ℕ → Bool
-is_unknown part = not (is_silent part) && not (bytes_eq (name_in part) (codes "limit"))
-    && not (bytes_eq (name_in part) (codes "offset")) && not (is_attribute (name_in part))
+abbrev pub is_unknown : Subject → List ℕ → Bool
+is_unknown subject part = not (is_silent part) && not (is_of_page subject (name_in part))
+    && not (is_attribute (name_in part))
 
 -- a part that no search comes of; one that is unknown is passed over, and the response says so
-abbrev pub is_left_out : List ℕ → Bool
-is_left_out part = is_silent part || is_unknown part
+abbrev pub is_left_out : Subject → List ℕ → Bool
+is_left_out subject part = is_silent part || is_unknown subject part
 
 -- the parts of a query
 abbrev pub parts_of : List ℕ → List (List ℕ)
 parts_of query = slice_split (λ octet. octet == 38) query
 
-abbrev pub is_said : List ℕ → Bool
-is_said part = not (is_left_out part)
+abbrev pub is_said : Subject → List ℕ → Bool
+is_said subject part = not (is_left_out subject part)
 
--- those of some parts that are words of a search
-abbrev pub words_among : List (List ℕ) → List (List ℕ)
-words_among parts = filter is_said parts
+-- those of some parts that are words of a search of this subject
+abbrev pub words_among : Subject → List (List ℕ) → List (List ℕ)
+words_among subject parts = filter (is_said subject) parts
 
-abbrev pub words_in : List ℕ → List (List ℕ)
-words_in query = words_among (parts_of query)
+abbrev pub words_in : Subject → List ℕ → List (List ℕ)
+words_in subject query = words_among subject (parts_of query)
 
 -- a UID that stands in a path (PS3.18 section 10.6.1.1), as a key
 abbrev pub uid_key : Tag → List ℕ → Key
@@ -100,8 +105,13 @@ uid_key tag text = record { tag = tag; value = percent_decode text }
 
 -- a search of what an institution keeps, a hundred at a time
 abbrev pub hundred_of : Subject → List ℕ → List Key → Search
-hundred_of subject name keys =
-    record { subject = subject; institution = name; keys = keys; page = record { offset = 0; limit = 100 } }
+hundred_of subject name keys = record {
+  subject = subject;
+  institution = name;
+  keys = keys;
+  after = None;
+  page = record { offset = 0; limit = 100 };
+}
 
 -- the search of the series of a study
 abbrev pub series_of : List ℕ → List ℕ → Search
@@ -132,7 +142,7 @@ IsSearchAt resource search = ⊥
 -- GET asks for the search of the path and the query
 abbrev pub Searching : Resource → List ℕ → Request → Type 0
 Searching resource query (ask.Search search) =
-    (start : Search) × IsSearchAt resource start × TakesWords (words_in query) start search
+    (start : Search) × IsSearchAt resource start × TakesWords (words_in start.subject query) start search
 Searching resource query request = ⊥
 
 -- what GET asks of a resource
@@ -188,7 +198,7 @@ IsAccepted request fields = Unit {0}
 -- this part of a query is the first that is no word of the search which the path and the parts before it say
 abbrev pub IsMisspelledAt : Resource → List ℕ → List ℕ → Type 0
 IsMisspelledAt resource query part =
-    (start : Search) × IsSearchAt resource start × StopsAt part (words_in query) start
+    (start : Search) × IsSearchAt resource start × StopsAt part (words_in start.subject query) start
 
 -- what GET comes to where something is searched
 abbrev pub IsSought : Resource → Fields → List ℕ → Wanted → Type 0
@@ -351,15 +361,20 @@ is_fuzzy part = bytes_eq part (codes "fuzzymatching=true")
 -- a part of a query passes a test
 abbrev pub passes_part : PartTest → List ℕ → Bool
 passes_part test.Fuzzy part = is_fuzzy part
-passes_part test.Unknown part = is_unknown part
+passes_part (test.Unknown subject) part = is_unknown subject part
+
+-- a parameter of a search is unknown
+abbrev pub has_unknown : Request → List ℕ → Bool
+has_unknown (ask.Search search) query = list_any (passes_part (test.Unknown search.subject)) (parts_of query)
+has_unknown request query = false
 
 -- how the answers to a search are wanted: where none is found an empty array, in place of no content, where an
 -- Accept allows DICOM JSON; whether matching is to be fuzzy; and whether a parameter is unknown
-abbrev pub wish_of : Fields → List ℕ → Wish
-wish_of fields query = record {
+abbrev pub wish_of : Fields → List ℕ → Request → Wish
+wish_of fields query request = record {
   wants_array = fields.asks_dicom_json;
   is_fuzzy = list_any (passes_part test.Fuzzy) (parts_of query);
-  has_unknown = list_any (passes_part test.Unknown) (parts_of query);
+  has_unknown = has_unknown request query;
 }
 
 -- A request of HTTP asks a question: it is let in, its key opens the resource with the right that this needs, its path,
@@ -369,7 +384,7 @@ pub record IsQuestion (guard : Guard) (request : HttpRequest) (question : Questi
   pub let_in : IsLetIn guard request.head aim
   pub opened : IsAimOpened guard request.head aim
   pub asks : Asks aim.method aim.resource aim.query.now request.head.fields.body_form request.body.now question.asked
-  pub wish : question.wish ≡ wish_of request.head.fields aim.query.now
+  pub wish : question.wish ≡ wish_of request.head.fields aim.query.now question.asked
   pub accepted : IsAccepted question.asked request.head.fields
 
 -- A part of the query is no word of the search that the path and the parts before say.

@@ -9,7 +9,7 @@ ghost use Rattle.dq_request.specs.Searches.{TakesWords, StopsAt, name_in, value_
 ghost use Rattle.dq_web.specs.declared.cutting.BodyForm.TheVariants as form;
 ghost use Rattle.dq_web.specs.declared.parsed_request.Wanted.TheVariants as wanted;
 ghost use Rattle.dq_web.specs.Aims.{owner_of, right_of, is_free, IsLetIn, IsUnasked};
-ghost use Rattle.dq_web.specs.ParsedRequests.{is_printable, is_silent, is_attribute, is_unknown, is_left_out, parts_of, words_among, words_in, uid_key, hundred_of, series_of, images_of, study_images_of, IsSearchAt, HasNoSearch, IsSought, IsUnsought, IsLooked, HasNoLook, is_file_path, IsBackup, IsEntryPosted, IsPosted, HasNoPost, Deleting, HasNoDelete, IsWanted, HasNoWish, IsFreeAnswer, IsAimOpened, IsAimShut, IsRefusedFor, IsJudged, label_of, is_fuzzy, passes_part, wish_of, AsksNothing, IsAsked};
+ghost use Rattle.dq_web.specs.ParsedRequests.{is_printable, is_silent, is_attribute, is_of_page, is_unknown, is_left_out, parts_of, words_among, words_in, uid_key, hundred_of, series_of, images_of, study_images_of, IsSearchAt, HasNoSearch, IsSought, IsUnsought, IsLooked, HasNoLook, is_file_path, IsBackup, IsEntryPosted, IsPosted, HasNoPost, Deleting, HasNoDelete, IsWanted, HasNoWish, IsFreeAnswer, IsAimOpened, IsAimShut, IsRefusedFor, IsJudged, label_of, is_fuzzy, passes_part, has_unknown, wish_of, AsksNothing, IsAsked};
 
 use crate::aim::{Aim, Method, Unasked, is_free, let_in, owner_of, right_of};
 use crate::cutting::{BodyForm, Fields, Head, HttpRequest};
@@ -97,8 +97,8 @@ enum Wanted {
 enum PartTest {
     /// That it asks for fuzzy matching.
     Fuzzy,
-    /// That it names neither an attribute nor the page.
-    Unknown,
+    /// That it names neither an attribute nor the page of a search of this subject.
+    Unknown(Subject),
 }
 
 fn is_printable(octet: u8) -> bool
@@ -146,28 +146,40 @@ fn is_attribute(name: &str) -> bool
     }
 }
 
+/// Whether a name is of what the page of a search shows.
+fn is_of_page(subject: Subject, name: &str) -> bool
+    ensures { result ≡ is_of_page subject name.now }
+{
+    name == "limit" || name == "offset" || subject.pages_by_key() && name == "after"
+}
+
 /// Whether a part of a query names neither an attribute nor the page.
-fn is_unknown(part: &str) -> bool
-    ensures { result ≡ is_unknown part.now }
+fn is_unknown(subject: Subject, part: &str) -> bool
+    ensures { result ≡ is_unknown subject part.now }
 {
     let name = name_in(part);
-    !is_silent(part) && name != "limit" && name != "offset" && !is_attribute(name)
+    !is_silent(part) && !is_of_page(subject, name) && !is_attribute(name)
 }
 
-fn is_left_out(part: &str) -> bool
-    ensures { result ≡ is_left_out part.now }
+fn is_left_out(subject: Subject, part: &str) -> bool
+    ensures { result ≡ is_left_out subject part.now }
 {
-    is_silent(part) || is_unknown(part)
+    is_silent(part) || is_unknown(subject, part)
 }
 
-/// Takes a part of a query as a word of a search, unless it is left out. The answer is whether
-/// the search goes on.
-fn take_part(alloc: Global, search: &mut Search, part: &str) -> Result<bool, AllocError>
+/// Takes a part of a query as a word of a search of this subject, unless it is left out. The answer is
+/// whether the search goes on.
+fn take_part(
+    alloc: Global,
+    search: &mut Search,
+    subject: Subject,
+    part: &str,
+) -> Result<bool, AllocError>
     ensures { IfOk result (λ is_taken. MatchBool is_taken
-        (TakesWords (words_among (part.now ∷ [])) search.old search.new)
-        (StopsAt part.now (words_among (part.now ∷ [])) search.old)) }
+        (TakesWords (words_among subject (part.now ∷ [])) search.old search.new)
+        (StopsAt part.now (words_among subject (part.now ∷ [])) search.old)) }
 {
-    if is_left_out(part) {
+    if is_left_out(subject, part) {
         return Ok(true);
     }
     search.take_word(alloc, part)
@@ -181,11 +193,12 @@ fn take_parts<'a>(
     query: &'a str,
 ) -> Result<Option<&'a str>, AllocError>
     ensures { IfOk result (λ refused. MatchOption refused
-        (TakesWords (words_in query.now) search.old search.new)
-        (λ part. StopsAt part.now (words_in query.now) search.old)) }
+        (TakesWords (words_in search.old.subject query.now) search.old search.new)
+        (λ part. StopsAt part.now (words_in search.old.subject query.now) search.old)) }
 {
+    let subject = search.subject;
     for part in query.split('&') {
-        if !take_part(alloc, search, part)? {
+        if !take_part(alloc, search, subject, part)? {
             return Ok(Some(part));
         }
     }
@@ -204,7 +217,7 @@ fn passes_part(wanted: PartTest, part: &str) -> bool
 {
     match wanted {
         PartTest::Fuzzy => is_fuzzy(part),
-        PartTest::Unknown => is_unknown(part),
+        PartTest::Unknown(subject) => is_unknown(subject, part),
     }
 }
 
@@ -219,14 +232,24 @@ fn has_part(wanted: PartTest, query: &str) -> bool
     is_found
 }
 
+/// Whether a parameter of a search is unknown.
+fn has_unknown(asked: &Request, query: &str) -> bool
+    ensures { result ≡ has_unknown asked.now query.now }
+{
+    match asked {
+        Request::Search(search) => has_part(PartTest::Unknown(search.subject), query),
+        _ => false,
+    }
+}
+
 /// How the answers to a search are wanted.
-fn wish_of(fields: &Fields<'_>, query: &str) -> Wish
-    ensures { result ≡ wish_of fields.now query.now }
+fn wish_of(fields: &Fields<'_>, query: &str, asked: &Request) -> Wish
+    ensures { result ≡ wish_of fields.now query.now asked.now }
 {
     Wish {
         wants_array: fields.asks_dicom_json,
         is_fuzzy: has_part(PartTest::Fuzzy, query),
-        has_unknown: has_part(PartTest::Unknown, query),
+        has_unknown: has_unknown(asked, query),
     }
 }
 
@@ -513,7 +536,7 @@ fn opened_answer(
 {
     match wanted_by(alloc, aim, &request.head.fields, request.body)? {
         Wanted::Request(asked) => {
-            let wish = wish_of(&request.head.fields, aim.query);
+            let wish = wish_of(&request.head.fields, aim.query, &asked);
             Ok(ParsedRequest::Question(question_of(asked, wish)))
         }
         Wanted::Misspelled(word) => Ok(ParsedRequest::Misspelled(word)),

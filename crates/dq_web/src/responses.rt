@@ -14,7 +14,8 @@ use dq_config::Institution;
 use dq_dataset::DataSet;
 use dq_json::{JsonFault, json_of};
 use dq_list::Listed;
-use dq_request::{BackupError, Cause, Counted, Counts, Request, Response, ShownPage};
+use dq_match::ShownPage;
+use dq_request::{BackupError, Cause, Counted, Counts, Request, Response};
 use std::alloc::{AllocError, Global};
 
 pub(crate) const STUDIES: &str = "{\"studies\":{\"kept\":";

@@ -5,7 +5,7 @@ use Rattle.std.proofs.lemmas.List.{append-nil}
 use Rattle.std.proofs.lemmas.Grind.{flat_map-append}
 use Rattle.dq_config.specs.declared.config.Institution.{Institution}
 use Rattle.dq_core.specs.declared.event.Event.{Event}
-use Rattle.dq_core.specs.declared.event.Event.TheVariants.{Open, Piece, End, Pull, Schedule, Withdraw}
+use Rattle.dq_core.specs.declared.event.Event.TheVariants.{Open, Schedule, Withdraw}
 use Rattle.dq_core.specs.declared.event.Reply.{Reply}
 use Rattle.dq_core.specs.Own.{is_on_connection, replies_at}
 use Rattle.dq_core.specs.Shared.{World, turn, world_after_turn, replies_from}
@@ -13,10 +13,10 @@ use Rattle.dq_wires.specs.HeldConnections.{HeldConnection, reply_octets}
 use Rattle.dq_wires.specs.Steps.{Step, events_of, replies_of}
 use Rattle.dq_wires.specs.Steps.Step.{Answered, Asked}
 use Rattle.dq_wires.specs.ConnectionActions.{ConnectionAction, action_steps, Break}
-use Rattle.dq_wires.specs.ConnectionActions.ConnectionAction.{Sent, WriteFailed, LastWriteFailed, Closed, Received, Idle, Pulled, PeerLeft}
+use Rattle.dq_wires.specs.ConnectionActions.ConnectionAction.{WriteFailed, Received, Pulled, PeerLeft}
 use Rattle.dq_wires.specs.Turns.{Done, connection_of, done_steps, connections_kept, Hold, Taking, taking_steps, with_taken, Turn, IsTurn, turn_steps, after_turn, Cut, IsMidway, IsCut, cut_steps}
-use Rattle.dq_wires.specs.Turns.Taking.{Full, Nobody, NewConnection}
-use Rattle.dq_wires.specs.Turns.Cut.{NoRoom, AcceptFailed, OpenFailed, Midway}
+use Rattle.dq_wires.specs.Turns.Taking.{NewConnection}
+use Rattle.dq_wires.specs.Turns.Cut.{Midway}
 use Rattle.dq_wires.specs.Octets.{answered_in, written_in, lost_in, on, held_on, done_on, RisesTo, IsNumbered}
 use Rattle.dq_wires.specs.Turners.{IsOrder}
 use Rattle.dq_wires.specs.Servings.{Act, act_steps, act_done, AreActs, after_acts, cut_done, served_steps, served_done}
@@ -51,11 +51,7 @@ answers-append n first later = flat_map-append (answer_at n) first later
 -- An opening is answered with no octets.
 abbrev pub IsQuietAt : Event → Reply → Type 0
 IsQuietAt (Open number) reply = reply_octets reply ≡ []
-IsQuietAt (Piece number octets) reply = Unit {0}
-IsQuietAt (End number) reply = Unit {0}
-IsQuietAt (Pull number) reply = Unit {0}
-IsQuietAt (Schedule inst octets) reply = Unit {0}
-IsQuietAt (Withdraw inst id) reply = Unit {0}
+IsQuietAt other reply = Unit {0}
 
 abbrev pub IsQuiet : List Step → Type 0
 IsQuiet [] = Unit {0}
@@ -65,11 +61,7 @@ IsQuiet (Asked number pending ∷ steps) = IsQuiet steps
 quiet-at : (institutions : List Institution) (world : World) (event : Event) (reply : Reply) → reply ≡ (turn institutions world event).reply
     → IsQuietAt event reply
 quiet-at institutions world (Open number) reply e = rw e refl
-quiet-at institutions world (Piece number octets) reply e = tt
-quiet-at institutions world (End number) reply e = tt
-quiet-at institutions world (Pull number) reply e = tt
-quiet-at institutions world (Schedule inst octets) reply e = tt
-quiet-at institutions world (Withdraw inst id) reply e = tt
+quiet-at institutions world other reply e = tt
 
 -- as the plain server answers
 pub quiet-steps : (institutions : List Institution) (world : World) (steps : List Step)
@@ -100,14 +92,11 @@ one-answer false octets = refl
 
 action-answers : (n : ℕ) (wire : HeldConnection) (action : ConnectionAction)
     → answers n (action_steps wire action) ≡ on n wire.number (flat_map reply_octets (replies_of (action_steps wire action)))
-action-answers n wire (Sent count) = sym (nothing-on (wire.number == n))
 action-answers n wire (WriteFailed reply shut) = one-answer (wire.number == n) (reply_octets reply)
-action-answers n wire (LastWriteFailed shut) = sym (nothing-on (wire.number == n))
-action-answers n wire (Closed shut) = sym (nothing-on (wire.number == n))
 action-answers n wire (Received octets reply) = one-answer (wire.number == n) (reply_octets reply)
-action-answers n wire Idle = sym (nothing-on (wire.number == n))
 action-answers n wire (Pulled reply) = one-answer (wire.number == n) (reply_octets reply)
 action-answers n wire (PeerLeft came reply shut) = one-answer (wire.number == n) (reply_octets reply)
+action-answers n wire other = sym (nothing-on (wire.number == n))
 
 round-answers : (n : ℕ) (done : List Done) → answers n (flat_map done_steps done) ≡ done_on n answered_in done
 round-answers n [] = refl
@@ -117,9 +106,8 @@ round-answers n (d ∷ done) =
     ∙ ap (λ x. on n d.wire.number (answered_in d) ++ x) (round-answers n done)
 
 taking-answers : (n : ℕ) (taking : Taking) → IsQuiet (taking_steps taking) → answers n (taking_steps taking) ≡ []
-taking-answers n Full q = refl
-taking-answers n Nobody q = refl
 taking-answers n (NewConnection place number reply) q = rw (q.0, nothing-on (number == n)) refl
+taking-answers n other q = refl
 
 begun-answers : (n : ℕ) (taking : Taking) (done : List Done) → IsQuiet (taking_steps taking ++ flat_map done_steps done)
     → answers n (taking_steps taking ++ flat_map done_steps done) ≡ done_on n answered_in done
@@ -174,17 +162,13 @@ module _ (n : ℕ) (h : Hold) where
       ]
 
   cut-begun : (cut : Cut) → IsNumbered h → IsCut h cut → IsQuiet (cut_steps cut) → Begun n h (cut_steps cut) (cut_done cut)
-  cut-begun NoRoom numbered fits q = (held_on n h.held ++ [], refl)
-  cut-begun AcceptFailed numbered fits q = (held_on n h.held ++ [], refl)
-  cut-begun (OpenFailed place number) numbered fits q = (held_on n h.held ++ [], refl)
   cut-begun (Midway taking done wire at) numbered fits q = midway-begun taking done wire at numbered fits q
+  cut-begun other numbered fits q = (held_on n h.held ++ [], refl)
 
   cut-gone : (cut : Cut) → IsCut h cut → IsGone n h → done_on n written_in (cut_done cut) ≡ []
-  cut-gone NoRoom fits gone = refl
-  cut-gone AcceptFailed fits gone = refl
-  cut-gone (OpenFailed place number) fits gone = refl
   cut-gone (Midway taking done wire at) fits gone =
       absent-done n written_in done (absent-first n (map connection_of done) (wire ∷ fits.others) (rw fits.each (gone-taken n h taking fits.takes gone).1))
+  cut-gone other fits gone = refl
 
   turn-begun : (t : Turn) (steps : List Step) (done : List Done) → IsNumbered h → IsTurn h t → IsQuiet (turn_steps t)
       → Begun n (after_turn h t) steps done → (IsGone n (after_turn h t) → done_on n written_in done ≡ [])
@@ -212,12 +196,9 @@ acts-gone n h (Ordered event reply ∷ acts) cut are fits gone = acts-gone n h a
 
 -- an order is on no connection
 order-answer : (n : ℕ) (event : Event) (reply : Reply) → IsOrder event → answer_at n (Answered event reply) ≡ []
-order-answer n (Open number) reply h = absurd h
-order-answer n (Piece number octets) reply h = absurd h
-order-answer n (End number) reply h = absurd h
-order-answer n (Pull number) reply h = absurd h
 order-answer n (Schedule inst octets) reply h = refl
 order-answer n (Withdraw inst id) reply h = refl
+order-answer n other reply h = absurd h
 
 pub acts-begun : (n : ℕ) (h : Hold) (acts : List Act) (cut : Cut) → IsNumbered h → AreActs h acts → IsCut (after_acts h acts) cut
     → IsQuiet (served_steps acts cut) → Begun n h (served_steps acts cut) (served_done acts cut)

@@ -113,48 +113,27 @@ pub formed : (newest : Option ℕ) (events : List Event) → rises_from newest e
 formed newest [] h = tt
 formed newest (event.Open n ∷ events) h =
     let p = both (is_above newest n) (rises_from (Some n) events) h in (above newest n p.0, formed (Some n) events p.1)
-formed newest (event.Piece n piece ∷ events) h = formed newest events h
-formed newest (event.End n ∷ events) h = formed newest events h
-formed newest (event.Pull n ∷ events) h = formed newest events h
-formed newest (event.Schedule inst octets ∷ events) h = formed newest events h
-formed newest (event.Withdraw inst id ∷ events) h = formed newest events h
+formed newest (other ∷ events) h = formed newest events h
 
 formed-lower : (top less : ℕ) (events : List Event) → less ≤ top → Formed top events → Formed less events
 formed-lower top less [] h f = tt
 formed-lower top less (event.Open n ∷ events) h f = (omega (arith, f.0), f.1)
-formed-lower top less (event.Piece n piece ∷ events) h f = formed-lower top less events h f
-formed-lower top less (event.End n ∷ events) h f = formed-lower top less events h f
-formed-lower top less (event.Pull n ∷ events) h f = formed-lower top less events h f
-formed-lower top less (event.Schedule inst octets ∷ events) h f = formed-lower top less events h f
-formed-lower top less (event.Withdraw inst id ∷ events) h f = formed-lower top less events h f
+formed-lower top less (other ∷ events) h f = formed-lower top less events h f
+
+-- what is said of events with one and without it is said where it is left out or not
+kept-or-not : (P : List Event → Type 0) (e : Event) (events : List Event) (b : Bool) → P (e ∷ events) → P events → P (if b then e ∷ events else events)
+kept-or-not P e events true kept not_kept = kept
+kept-or-not P e events false kept not_kept = not_kept
 
 -- so they do among the events that pass a test
 pub formed-among : (mine : Event → Bool) (top : ℕ) (events : List Event) → Formed top events → Formed top (filter mine events)
 formed-among mine top [] f = tt
-formed-among mine top (event.Open n ∷ events) f = by (mine (event.Open n)) (formed-among mine (n + 1) events f.1) where
-  by : (b : Bool) → Formed (n + 1) (filter mine events) → Formed top (if b then event.Open n ∷ filter mine events else filter mine events)
-  by true later = (f.0, later)
-  by false later = formed-lower (n + 1) top (filter mine events) (omega (arith, f.0)) later
-formed-among mine top (event.Piece n piece ∷ events) f = kept (mine (event.Piece n piece)) (formed-among mine top events f) where
-  kept : (b : Bool) → Formed top (filter mine events) → Formed top (if b then event.Piece n piece ∷ filter mine events else filter mine events)
-  kept true later = later
-  kept false later = later
-formed-among mine top (event.End n ∷ events) f = kept (mine (event.End n)) (formed-among mine top events f) where
-  kept : (b : Bool) → Formed top (filter mine events) → Formed top (if b then event.End n ∷ filter mine events else filter mine events)
-  kept true later = later
-  kept false later = later
-formed-among mine top (event.Pull n ∷ events) f = kept (mine (event.Pull n)) (formed-among mine top events f) where
-  kept : (b : Bool) → Formed top (filter mine events) → Formed top (if b then event.Pull n ∷ filter mine events else filter mine events)
-  kept true later = later
-  kept false later = later
-formed-among mine top (event.Schedule inst octets ∷ events) f = kept (mine (event.Schedule inst octets)) (formed-among mine top events f) where
-  kept : (b : Bool) → Formed top (filter mine events) → Formed top (if b then event.Schedule inst octets ∷ filter mine events else filter mine events)
-  kept true later = later
-  kept false later = later
-formed-among mine top (event.Withdraw inst id ∷ events) f = kept (mine (event.Withdraw inst id)) (formed-among mine top events f) where
-  kept : (b : Bool) → Formed top (filter mine events) → Formed top (if b then event.Withdraw inst id ∷ filter mine events else filter mine events)
-  kept true later = later
-  kept false later = later
+formed-among mine top (event.Open n ∷ events) f =
+    let later = formed-among mine (n + 1) events f.1 in
+    kept-or-not (Formed top) (event.Open n) (filter mine events) (mine (event.Open n)) (f.0, later)
+    (formed-lower (n + 1) top (filter mine events) (omega (arith, f.0)) later)
+formed-among mine top (e ∷ events) f =
+    let later = formed-among mine top events f in kept-or-not (Formed top) e (filter mine events) (mine e) later later
 
 -- edits in turn
 edited-append : (first later : List (List Edit)) (records : List Record) → edited_all (first ++ later) records ≡ edited_all later (edited_all first records)
@@ -268,13 +247,8 @@ with_records cs records = record { connections = cs; records = records }
 
 -- no request yet
 none-before : (xs ys : List Input) → request_in (xs ++ ys) ≡ None → request_in xs ≡ None
-none-before [] ys e = refl
 none-before (Requested request ∷ xs) ys e = cc
-none-before (Sent message ∷ xs) ys e = refl
-none-before (Released ∷ xs) ys e = refl
-none-before (PeerAborted source reason ∷ xs) ys e = refl
-none-before (Stray ∷ xs) ys e = refl
-none-before (Bad reason ∷ xs) ys e = refl
+none-before other ys e = refl
 
 -- the octets on a connection, of the replies to events from a world on
 abbrev pub octets_from : Limits → ℕ → AloneWorld → List Event → List ℕ
@@ -447,17 +421,12 @@ module _ (joins : Joins) (of_request : OfRequest) (adds : Adds) (limits : Limits
 
   joined-first : (n : ℕ) (world : AloneWorld) (top : ℕ) → RisesFrom 0 world.connections top → (m : ℕ) (octets : List ℕ) (events : List Event)
       → octets_from limits n world (joined_to m octets events) ≡ octets_from limits n world (event.Piece m octets ∷ events)
-  joined-first n world top rises m octets [] = refl
-  joined-first n world top rises m octets (event.Open k ∷ events) = refl
-  joined-first n world top rises m octets (event.End k ∷ events) = refl
-  joined-first n world top rises m octets (event.Pull k ∷ events) = refl
-  joined-first n world top rises m octets (event.Schedule inst entry ∷ events) = refl
-  joined-first n world top rises m octets (event.Withdraw inst id ∷ events) = refl
   joined-first n world top rises m octets (event.Piece k more ∷ events) = by (k == m) refl where
     by : (b : Bool) → (k == m) ≡ b
         → octets_from limits n world (joined_to m octets (event.Piece k more ∷ events)) ≡ octets_from limits n world (event.Piece m octets ∷ event.Piece k more ∷ events)
     by true t = let e : k ≡ m = same m k t in rw t (one-piece n world top rises m octets more events ∙ rw e refl)
     by false t = rw t refl
+  joined-first n world top rises m octets other = refl
 
   -- the connections after an event
   rises-piece : (world : AloneWorld) (top : ℕ) → RisesFrom 0 world.connections top → (n : ℕ) (piece : List ℕ) (o : Option Connection)

@@ -25,9 +25,7 @@ of_close false = refl
 of_reply : (r : Reply) → octets_among (outputs_in r) ≡ reply_octets r
 of_reply (reply.Octets conn octets close) =
     of_both (map Octet octets) (close_if close) ∙ rw (of_octets octets, of_close close) (append-nil octets)
-of_reply reply.Done = refl
-of_reply (reply.Refused number) = refl
-of_reply reply.Ignored = refl
+of_reply other = refl
 
 of_replies : (replies : List Reply) → octets_among (flat_map outputs_in replies) ≡ flat_map reply_octets replies
 of_replies [] = refl

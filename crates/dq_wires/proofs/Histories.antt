@@ -17,16 +17,16 @@ world-next institutions world [] event = refl
 world-next institutions world (e ∷ events) event = world-next institutions (world_after_turn world (turn institutions world e)) events event
 
 module _ {Tables : Type 0} (state : Tables → State) where
-  pub runs-serve : (old new : ServerView Tables) (steps : List Step) → Runs (Moves state) old new steps → Serves state old new steps
-  runs-serve old new [] same = record {
+  pub runs_serve : (old new : ServerView Tables) (steps : List Step) → Runs (Moves state) old new steps → Serves state old new steps
+  runs_serve old new [] same = record {
     stands = λ rows events stood h. rw (same, append-nil events) stood;
     replied = λ rows events stood h. refl;
     institutions = ap (λ (x : ServerView Tables). x.institutions) same;
     was_honest = λ h. rw same at h;
     settles = λ h s. rw same s;
   }
-  runs-serve old new (Answered event reply ∷ steps) (mid, stepped, rest) =
-      let later : Serves state mid new steps = runs-serve mid new steps rest in
+  runs_serve old new (Answered event reply ∷ steps) (mid, stepped, rest) =
+      let later : Serves state mid new steps = runs_serve mid new steps rest in
       record {
         stands = λ rows events stood h. rw (← append_assoc events (event ∷ []) (events_of steps))
             (later.stands rows (events ++ event ∷ []) (stepped.stands rows events stood (later.was_honest h)) h);
@@ -40,8 +40,8 @@ module _ {Tables : Type 0} (state : Tables → State) where
         was_honest = λ h. stepped.goes.was_honest (later.was_honest h);
         settles = λ h s. later.settles h (stepped.goes.settles (later.was_honest h) s);
       }
-  runs-serve old new (Asked number pending ∷ steps) (mid, asks, rest) =
-      let later : Serves state mid new steps = runs-serve mid new steps rest in
+  runs_serve old new (Asked number pending ∷ steps) (mid, asks, rest) =
+      let later : Serves state mid new steps = runs_serve mid new steps rest in
       let looked = asks.looked in
       record {
         stands = λ rows events stood h. later.stands rows events (looked.stands rows events stood (later.was_honest h)) h;

@@ -95,9 +95,7 @@ at-map g h p q same (e ∷ events) (r ∷ given) =
 renumbered-octets : (another : ℕ → ℕ) (given : List Reply) → all_octets (map (renumbered_reply another) given) ≡ all_octets given
 renumbered-octets another [] = refl
 renumbered-octets another (reply.Octets number octets close ∷ given) = ap (λ rest. octets ++ rest) (renumbered-octets another given)
-renumbered-octets another (reply.Done ∷ given) = renumbered-octets another given
-renumbered-octets another (reply.Refused number ∷ given) = renumbered-octets another given
-renumbered-octets another (reply.Ignored ∷ given) = renumbered-octets another given
+renumbered-octets another (other ∷ given) = renumbered-octets another given
 
 module _ (another : ℕ → ℕ) (keeps : KeepsOrder another) where
   same-at : (a b : ℕ) → (a ≡ b) ⊎ ((a < b) ⊎ (b < a)) → (another a == another b) ≡ (a == b)
@@ -110,8 +108,7 @@ module _ (another : ℕ → ℕ) (keeps : KeepsOrder another) where
   same-on n (event.Piece m piece) = same-at m n (cases_order m n)
   same-on n (event.End m) = same-at m n (cases_order m n)
   same-on n (event.Pull m) = same-at m n (cases_order m n)
-  same-on n (event.Schedule inst octets) = refl
-  same-on n (event.Withdraw inst id) = refl
+  same-on n other = refl
 
 -- the events on a connection that an institution owns are its own
 module _ (institutions : List Institution) (name : List ℕ) (events : List Event) (n : ℕ) (owned : IsTrue (owns institutions name events n)) where
@@ -123,8 +120,7 @@ module _ (institutions : List Institution) (name : List ℕ) (events : List Even
   own-within (event.Piece m piece) h = own-number m h
   own-within (event.End m) h = own-number m h
   own-within (event.Pull m) h = own-number m h
-  own-within (event.Schedule inst octets) h = cc
-  own-within (event.Withdraw inst id) h = cc
+  own-within other h = cc
 
   -- the octets that are answered on it, by the own events under other numbers
   own-octets : (another : ℕ → ℕ) → KeepsOrder another → (given : List Reply)
@@ -168,22 +164,22 @@ module _ {Tables : Type 0} (state : Tables → State) {rows : List Row} {first l
   abbrev given : List Reply
   given = replies_of (served_steps acts cut)
 
-  pub served-replies : replies_of (served_steps acts cut) ≡ replies first.institutions rows (served_events acts cut)
-  served-replies =
+  pub served_replies : replies_of (served_steps acts cut) ≡ replies first.institutions rows (served_events acts cut)
+  served_replies =
       let serves : Serves state first last (served_steps acts cut) = comes-serve first last (served_steps acts cut) served.steps in
       serves.replied rows [] served.begins honest
 
-  pub served-settles : IsSettled (state first.tables) → IsSettled (state last.tables)
-  served-settles settled =
+  pub served_settles : IsSettled (state first.tables) → IsSettled (state last.tables)
+  served_settles settled =
       let serves : Serves state first last (served_steps acts cut) = comes-serve first last (served_steps acts cut) served.steps in
       serves.settles honest settled
 
   -- a fault at an event after it
-  pub served-fails : {new : ServerView Tables} {event : Event} {fault : Fault} → Fails state last new event fault → (state new.tables).honest
+  pub served_fails : {new : ServerView Tables} {event : Event} {fault : Fault} → Fails state last new event fault → (state new.tables).honest
       → IsSettled (state first.tables)
       → (let world = world_after first.institutions rows (served_events acts cut) in
       IsPartOf (turn first.institutions world event).operations world.rows (state new.tables).rows (state new.tables).may_leave)
-  served-fails {new} {event} {fault} fails kept settled =
+  served_fails {new} {event} {fault} fails kept settled =
       let serves : Serves state first last (served_steps acts cut) = comes-serve first last (served_steps acts cut) served.steps in
       let part = subst (λ (i : List Institution). let world = world_after i rows (served_events acts cut) in
       IsPartOf (turn i world event).operations world.rows (state new.tables).rows (MayLeaveAfter (state last.tables) (state new.tables)))
@@ -196,8 +192,8 @@ module _ {Tables : Type 0} (state : Tables → State) {rows : List Row} {first l
         crash = λ r left. part.crash r (serves.settles honest settled, left);
       }
 
-  pub served-rows : (state last.tables).rows ≡ (world_after first.institutions rows (served_events acts cut)).rows
-  served-rows =
+  pub served_rows : (state last.tables).rows ≡ (world_after first.institutions rows (served_events acts cut)).rows
+  served_rows =
       let serves : Serves state first last (served_steps acts cut) = comes-serve first last (served_steps acts cut) served.steps in
       rw (← serves.institutions) (serves.stands rows [] served.begins honest).keeps
 
@@ -206,18 +202,18 @@ module _ {Tables : Type 0} (state : Tables → State) {rows : List Row} {first l
       → IsRun first.institutions rows (served_events acts cut ++ later) given
       (rows_within first.institutions rows (served_events acts cut ++ later) (length given) 0)
   served-run later = record {
-    first_replies = rw (replies-more first.institutions (first_world rows) (served_events acts cut) later, ← served-replies)
+    first_replies = rw (replies-more first.institutions (first_world rows) (served_events acts cut) later, ← served_replies)
         (sym (take-append_seam given _));
     operations = 0;
     rows_then = refl;
   }
 
   -- what is written on a connection begins what is answered on it
-  pub served-written : (number : ℕ) → IsFrontOf (written_on number acts cut) (answered_on number acts cut)
-  served-written number =
+  pub served_written : (number : ℕ) → IsFrontOf (written_on number acts cut) (answered_on number acts cut)
+  served_written number =
       let begun : Begun number nothing_held (served_steps acts cut) (served_done acts cut) =
       acts-begun number nothing_held acts cut (omega arith) served.are served.fits
-      (quiet-steps first.institutions (first_world rows) (served_steps acts cut) served-replies) in
+      (quiet-steps first.institutions (first_world rows) (served_steps acts cut) served_replies) in
       (begun.0, sym begun.1 ∙ sym (answers-at number (served_steps acts cut)))
 
   -- by the own events of its owner
@@ -228,7 +224,7 @@ module _ {Tables : Type 0} (state : Tables → State) {rows : List Row} {first l
       (all_octets (replies_at (is_on_connection (anew number)) (map (with_other_number anew) (own first.institutions name events))
       (map (renumbered_reply anew) (replies_at (is_own_event first.institutions name events) events given)))))
   served-own later name number owned anew keeps =
-      let front = served-written number in (
+      let front = served_written number in (
         front.0,
         front.1 ∙ ap all_octets (sym (at-steps (is_on_connection number) (served_steps acts cut) later))
             ∙ own-octets first.institutions name (served_events acts cut ++ later) number owned anew keeps given,

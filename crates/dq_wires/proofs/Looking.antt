@@ -18,13 +18,13 @@ use Rattle.dq_wires.specs.Steps.Step.{Answered, Asked}
 use Rattle.dq_wires.specs.ServerSteps.{Stepped, Asks, Moves}
 use Rattle.dq_wires.specs.Serving.{Serves}
 use Rattle.dq_wires.specs.Servings.{ComesBy}
-use Rattle.dq_wires.proofs.Histories.{runs-serve}
+use Rattle.dq_wires.proofs.Histories.{runs_serve}
 use Rattle.dq_wires.proofs.TurnSequences.{runs-then}
 
 module _ {Tables : Type 0} {state : Tables → State} where
-  pub stepped-after : {old mid new : ServerView Tables} {event : Event} {reply : Reply}
+  pub stepped_after : {old mid new : ServerView Tables} {event : Event} {reply : Reply}
       → Looked state old mid → Stepped state mid new event reply → Stepped state old new event reply
-  stepped-after {event = event} looked stepped = record {
+  stepped_after {event = event} looked stepped = record {
     replied = λ rows events stood honest.
         stepped.replied rows events (looked.stands rows events stood (stepped.goes.was_honest honest)) honest
         ∙ ap (λ (i : List Institution). (turn i (world_after i rows events) event).reply) looked.institutions;
@@ -55,7 +55,7 @@ module _ {Tables : Type 0} {state : Tables → State} where
   }
 
   moves-after : (old mid new : ServerView Tables) (s : Step) → Looked state old mid → Moves state mid new s → Moves state old new s
-  moves-after old mid new (Answered event reply) looked moves = stepped-after looked moves
+  moves-after old mid new (Answered event reply) looked moves = stepped_after looked moves
   moves-after old mid new (Asked number pending) looked moves = asks-after looked moves
 
   -- no step, nor a look
@@ -80,7 +80,7 @@ module _ {Tables : Type 0} {state : Tables → State} where
 
   pub comes-serve : (old new : ServerView Tables) (steps : List Step) → ComesBy state old new steps → Serves state old new steps
   comes-serve old new steps comes =
-      let serves : Serves state old comes.last steps = runs-serve state old comes.last steps comes.runs in
+      let serves : Serves state old comes.last steps = runs_serve state old comes.last steps comes.runs in
       let looks = comes.looks in
       record {
         stands = λ rows events stood honest. looks.stands rows _ (serves.stands rows events stood (looks.goes.was_honest honest)) honest;

@@ -6,11 +6,11 @@ use Rattle.std.proofs.lemmas.Grind.{flat_map-append}
 use Rattle.std.proofs.lemmas.Bool.Decides.{nat_tests}
 use Rattle.dq_wires.specs.HeldConnections.{HeldConnection, new_held}
 use Rattle.dq_wires.specs.ConnectionActions.{ConnectionAction, action_after}
-use Rattle.dq_wires.specs.ConnectionActions.ConnectionAction.{Sent, WriteFailed, LastWriteFailed, Closed, Received, Idle, Pulled, PeerLeft}
+use Rattle.dq_wires.specs.ConnectionActions.ConnectionAction.{WriteFailed, LastWriteFailed, PeerLeft}
 use Rattle.dq_wires.specs.Turns.{Done, connection_of, connections_kept, AreDue, Hold, Taking, IsTaking, with_taken, Turn, IsTurn, after_turn, AreTurns, after_turns}
-use Rattle.dq_wires.specs.Turns.Taking.{Full, Nobody, NewConnection}
+use Rattle.dq_wires.specs.Turns.Taking.{NewConnection}
 use Rattle.dq_wires.specs.Octets.{answered_in, written_in, lost_in, action_lost, unsent_of, on, held_on, done_on, turns_done, RisesTo, IsNumbered}
-use Rattle.dq_wires.proofs.Conserving.{action-conserves, kept-or-not, rises-taken, turn-numbers}
+use Rattle.dq_wires.proofs.Conserving.{action_conserves, kept-or-not, rises-taken, turn-numbers}
 
 -- no connection has the number
 abbrev pub IsAbsent : ℕ → List HeldConnection → Type 0
@@ -95,21 +95,17 @@ round-conserves n (d ∷ done) low high r due = by (d.wire.number == n) refl (ro
       rw (split, kept-own n d e (kept-or-not d.wire d.action), e)
       (own-alone d.wire.unsent (answered_in d) (written_in d) (lost_in d) (flat_map unsent_of (connections_kept d))
       (held_on n (map connection_of done)) (done_on n answered_in done) (done_on n written_in done) (done_on n lost_in done) (held_on n (flat_map connections_kept done))
-      (action-conserves d.wire d.action due.0) (absent-held n (map connection_of done) others) (absent-done n answered_in done others)
+      (action_conserves d.wire d.action due.0) (absent-held n (map connection_of done) others) (absent-done n answered_in done others)
       (absent-done n written_in done others) (absent-done n lost_in done others)
       (absent-held n (flat_map connections_kept done) (absent-kept n done others)))
   by false e others_conserve = rw (split, kept-other n d e (kept-or-not d.wire d.action), e) others_conserve
 
 -- a connection that loses octets is given up
 lost-or-kept : (wire : HeldConnection) (action : ConnectionAction) → (action_lost wire action ≡ []) ⊎ (action_after wire action ≡ [])
-lost-or-kept wire (Sent count) = inl refl
 lost-or-kept wire (WriteFailed reply shut) = inr refl
 lost-or-kept wire (LastWriteFailed shut) = inr refl
-lost-or-kept wire (Closed shut) = inl refl
-lost-or-kept wire (Received octets reply) = inl refl
-lost-or-kept wire Idle = inl refl
-lost-or-kept wire (Pulled reply) = inl refl
 lost-or-kept wire (PeerLeft came reply shut) = inr refl
+lost-or-kept wire other = inl refl
 
 -- nothing was lost on it, or it is not held any more
 lost-or-gone : (n : ℕ) (done : List Done) (low high : ℕ) → RisesTo low high (map connection_of done)
@@ -131,11 +127,10 @@ lost-or-gone n (d ∷ done) low high r = by (d.wire.number == n) refl (lost-or-g
 
 -- one that has just come has nothing unsent
 pub taken-held : (n : ℕ) (h : Hold) (taking : Taking) → held_on n (with_taken h taking).held ≡ held_on n h.held
-taken-held n h Full = refl
-taken-held n h Nobody = refl
 taken-held n h (NewConnection place number reply) =
     flat_map-append (λ (w : HeldConnection). on n w.number w.unsent) h.held (new_held place number ∷ [])
     ∙ rw (nothing-on (number == n)) (append-nil (held_on n h.held))
+taken-held n h other = refl
 
 pub turn-conserves : (n : ℕ) (h : Hold) (t : Turn) → IsNumbered h → IsTurn h t
     → held_on n h.held ++ done_on n answered_in t.done
@@ -150,11 +145,10 @@ abbrev pub IsGone : ℕ → Hold → Type 0
 IsGone n h = (n ≤ h.newest) × IsAbsent n h.held
 
 pub gone-taken : (n : ℕ) (h : Hold) (taking : Taking) → IsTaking h taking → IsGone n h → IsGone n (with_taken h taking)
-gone-taken n h Full takes gone = gone
-gone-taken n h Nobody takes gone = gone
 gone-taken n h (NewConnection place number reply) takes gone =
     let above-it : n < number = omega (arith, takes.1, gone.0) in
     (omega arith, absent-more n h.held (new_held place number) gone.1 (above n number above-it))
+gone-taken n h other takes gone = gone
 
 pub gone-turn : (n : ℕ) (h : Hold) (t : Turn) → IsTurn h t → IsGone n h → IsGone n (after_turn h t)
 gone-turn n h t is gone =
@@ -190,12 +184,12 @@ conserved-on h a w l k b v m z e f (inr none) =
     sym (append_assoc h a b) ∙ ap (λ x. x ++ b) e ∙ append_assoc w (l ++ k) b ∙ ap (λ x. w ++ x) (append_assoc l k b ∙ ap (λ x. l ++ x) later)
     ∙ rw (none, append-nil w) (ap (λ x. w ++ x) (sym (append_assoc l m z)))
 
-pub turns-conserve : (n : ℕ) (h : Hold) (turns : List Turn) → IsNumbered h → AreTurns h turns
+pub turns_conserve : (n : ℕ) (h : Hold) (turns : List Turn) → IsNumbered h → AreTurns h turns
     → held_on n h.held ++ done_on n answered_in (turns_done turns)
     ≡ done_on n written_in (turns_done turns)
     ++ (done_on n lost_in (turns_done turns) ++ held_on n (after_turns h turns).held)
-turns-conserve n h [] numbered are = append-nil (held_on n h.held)
-turns-conserve n h (t ∷ turns) numbered are =
+turns_conserve n h [] numbered are = append-nil (held_on n h.held)
+turns_conserve n h (t ∷ turns) numbered are =
     let next : Hold = after_turn h t in
     let either : (done_on n lost_in t.done ≡ []) ⊎ (done_on n written_in (turns_done turns) ≡ []) =
     elim (lost-or-gone_after n h t numbered are.0) [
@@ -206,4 +200,4 @@ turns-conserve n h (t ∷ turns) numbered are =
     (conserved-on (held_on n h.held) (done_on n answered_in t.done) (done_on n written_in t.done) (done_on n lost_in t.done) (held_on n next.held)
     (done_on n answered_in (turns_done turns)) (done_on n written_in (turns_done turns)) (done_on n lost_in (turns_done turns))
     (held_on n (after_turns next turns).held) (turn-conserves n h t numbered are.0)
-    (turns-conserve n next turns (turn-numbers h t are.0 numbered) are.1) either)
+    (turns_conserve n next turns (turn-numbers h t are.0 numbered) are.1) either)

@@ -25,7 +25,7 @@ use Rattle.dq_wires.specs.Servings.Act.{Turned, Ordered}
 use Rattle.dq_wires.specs.Looping.{orders_of, ordered_in, capture_number, has_number, IsHeard, IsPlayed, ArePlayed, IsCome, Acted, ActsOn, PlaysOn}
 use Rattle.dq_wires.proofs.Logging.{logs-then, logs-none}
 use Rattle.dq_wires.proofs.TurnSequences.{runs-then}
-use Rattle.dq_wires.proofs.Serving.{acts-more, after-more, turned-are, turned-after, turned-calls, turned-steps, serving-begins, serving-more}
+use Rattle.dq_wires.proofs.Serving.{acts-more, after-more, turned-are, turned-after, turned-calls, turned-steps, serving_begins, serving-more}
 
 ordered_in-append : (acts more : List Act) → ordered_in (acts ++ more) ≡ ordered_in acts ++ ordered_in more
 ordered_in-append [] more = refl
@@ -125,7 +125,7 @@ module _ {Tables : Type 0} {state : Tables → State} where
     new.hold,
     rw held at played,
     serving-more state rows (log wires) (log wires) (log left) old.server old.server new.server nothing_held new.hold [] acts
-        (serving-begins state rows (log wires) old.server begins) (rw held at acted.are) (rw held at acted.leaves) acted.calls acted.steps,
+        (serving_begins state rows (log wires) old.server begins) (rw held at acted.are) (rw held at acted.leaves) acted.calls acted.steps,
   )
 
 -- What came about of the events so far.

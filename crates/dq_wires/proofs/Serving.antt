@@ -21,10 +21,10 @@ use Rattle.dq_wires.specs.Steps.{Step, Runs, events_of}
 use Rattle.dq_wires.specs.Steps.Step.{Answered, Asked}
 use Rattle.dq_wires.specs.ServerSteps.{Stepped, Moves}
 use Rattle.dq_wires.specs.ConnectionActions.{ConnectionAction, action_steps}
-use Rattle.dq_wires.specs.ConnectionActions.ConnectionAction.{Sent, WriteFailed, LastWriteFailed, Closed, Received, Idle, Pulled, PeerLeft}
+use Rattle.dq_wires.specs.ConnectionActions.ConnectionAction.{Sent}
 use Rattle.dq_wires.specs.Turns.{Done, done_steps, Hold, Taking, IsTaking, taking_steps, with_taken, Turn, turn_calls, turn_steps, after_turn, AreTurns, after_turns, all_calls, all_steps, Cut, IsCut, cut_steps, TurnsWent, TurnsCut}
-use Rattle.dq_wires.specs.Turns.Taking.{Full, Nobody, NewConnection}
-use Rattle.dq_wires.specs.Turns.Cut.{NoRoom, AcceptFailed, OpenFailed, Midway}
+use Rattle.dq_wires.specs.Turns.Taking.{NewConnection}
+use Rattle.dq_wires.specs.Turns.Cut.{NoRoom, Midway}
 use Rattle.dq_wires.specs.Turners.{NextOpens, IsOrder}
 use Rattle.dq_wires.specs.Servings.{Act, act_calls, act_steps, nothing_held, AreActs, after_acts, all_turned, Serving, served_steps, served_events, Served}
 use Rattle.dq_wires.specs.Servings.Act.{Turned, Ordered}
@@ -60,9 +60,9 @@ turned-steps [] = refl
 turned-steps (t ∷ turns) = ap (λ steps. turn_steps t ++ steps) (turned-steps turns)
 
 module _ {Tables : Type 0} (state : Tables → State) (rows : List Row) where
-  pub serving-begins : (log : Option (List Call)) (server : ServerView Tables) → Refines state rows server []
+  pub serving_begins : (log : Option (List Call)) (server : ServerView Tables) → Refines state rows server []
       → Serving state rows log log server server nothing_held []
-  serving-begins log server begins =
+  serving_begins log server begins =
       record { begins = begins; are = tt; leaves = refl; calls = logs-none log; steps = comes-none server }
 
   module _ (before now after : Option (List Call)) (first mid next : ServerView Tables) (hold to : Hold) (acts : List Act) where
@@ -80,22 +80,22 @@ module _ {Tables : Type 0} (state : Tables → State) (rows : List Row) where
           (comes-more first mid next (flat_map act_steps acts) (flat_map act_steps more) serving.steps steps);
     }
 
-    pub serving-turns : (count : ℕ) → Serving state rows before now first mid hold acts
+    pub serving_turns : (count : ℕ) → Serving state rows before now first mid hold acts
         → (went : TurnsWent (Moves state) now after mid next hold to count)
         → Serving state rows before after first next to (acts ++ all_turned went.turns)
-    serving-turns count serving went =
+    serving_turns count serving went =
         serving-more (all_turned went.turns) serving (turned-are hold went.turns went.are) (went.leaves ∙ sym (turned-after hold went.turns))
         (rw (turned-calls went.turns) went.calls) (rw (turned-steps went.turns) went.steps)
 
-  pub serving-order : (before now : Option (List Call)) (first mid next : ServerView Tables) (hold : Hold) (acts : List Act) (event : Event) (reply : Reply)
+  pub serving_order : (before now : Option (List Call)) (first mid next : ServerView Tables) (hold : Hold) (acts : List Act) (event : Event) (reply : Reply)
       → Serving state rows before now first mid hold acts → IsOrder event → Stepped state mid next event reply
       → Serving state rows before now first next hold (acts ++ Ordered event reply ∷ [])
-  serving-order before now first mid next hold acts event reply serving order goes =
+  serving_order before now first mid next hold acts event reply serving order goes =
       serving-more before now now first mid next hold hold acts (Ordered event reply ∷ []) serving (order, tt) refl (logs-none now) (next, goes, refl)
 
-  pub serving-look : (before now : Option (List Call)) (first mid next : ServerView Tables) (hold : Hold) (acts : List Act)
+  pub serving_look : (before now : Option (List Call)) (first mid next : ServerView Tables) (hold : Hold) (acts : List Act)
       → Serving state rows before now first mid hold acts → Looked state mid next → Serving state rows before now first next hold acts
-  serving-look before now first mid next hold acts serving looked = record {
+  serving_look before now first mid next hold acts serving looked = record {
     begins = serving.begins;
     are = serving.are;
     leaves = serving.leaves;
@@ -103,16 +103,16 @@ module _ {Tables : Type 0} (state : Tables → State) (rows : List Row) where
     steps = comes-looking serving.steps looked;
   }
 
-  pub serving-whole : (before now : Option (List Call)) (first last : ServerView Tables) (hold : Hold) (acts : List Act)
+  pub serving_whole : (before now : Option (List Call)) (first last : ServerView Tables) (hold : Hold) (acts : List Act)
       → Serving state rows before now first last hold acts → Served state rows first last acts NoRoom
-  serving-whole before now first last hold acts serving =
+  serving_whole before now first last hold acts serving =
       record { begins = serving.begins; are = serving.are; fits = tt; steps = rw (append-nil (flat_map act_steps acts)) serving.steps }
 
-  pub serving-cut : {Fails : ServerView Tables → ServerView Tables → Event → Fault → Type 0} (before now after : Option (List Call))
+  pub serving_cut : {Fails : ServerView Tables → ServerView Tables → Event → Fault → Type 0} (before now after : Option (List Call))
       (first mid new : ServerView Tables) (hold : Hold) (acts : List Act) (count : ℕ) (fault : TurnFault)
       → Serving state rows before now first mid hold acts → (off : TurnsCut (Moves state) Fails now after mid new hold count fault)
       → Served state rows first off.mid (acts ++ all_turned off.turns) off.cut
-  serving-cut before now after first mid new hold acts count fault serving off =
+  serving_cut before now after first mid new hold acts count fault serving off =
       let after : after_acts nothing_held (acts ++ all_turned off.turns) ≡ after_turns hold off.turns =
       after-more nothing_held acts (all_turned off.turns) ∙ ap (λ (h : Hold). after_acts h (all_turned off.turns)) (sym serving.leaves)
       ∙ turned-after hold off.turns in
@@ -131,13 +131,7 @@ module _ {Tables : Type 0} (state : Tables → State) (rows : List Row) where
 action-rises : (newest : Option ℕ) (wire : HeldConnection) (action : ConnectionAction) (later : List Event)
     → rises_from newest (events_of (action_steps wire action) ++ later) ≡ rises_from newest later
 action-rises newest wire (Sent count) later = refl
-action-rises newest wire (WriteFailed reply shut) later = refl
-action-rises newest wire (LastWriteFailed shut) later = refl
-action-rises newest wire (Closed shut) later = refl
-action-rises newest wire (Received octets reply) later = refl
-action-rises newest wire Idle later = refl
-action-rises newest wire (Pulled reply) later = refl
-action-rises newest wire (PeerLeft came reply shut) later = refl
+action-rises newest wire other later = refl
 
 events-append : (first later : List Step) → events_of (first ++ later) ≡ events_of first ++ events_of later
 events-append [] later = refl
@@ -158,18 +152,15 @@ both a b e f = rw (e, f) refl
 taking-rises : (newest : Option ℕ) (h : Hold) (taking : Taking) (later : List Step) → NextOpens newest h.newest → IsTaking h taking
     → ((n : Option ℕ) → NextOpens n (with_taken h taking).newest → IsTrue (rises_from n (events_of later)))
     → IsTrue (rises_from newest (events_of (taking_steps taking ++ later)))
-taking-rises newest h Full later opens takes rest = rest newest opens
-taking-rises newest h Nobody later opens takes rest = rest newest opens
 taking-rises newest h (NewConnection place number reply) later opens takes rest =
     both (is_above newest number) (rises_from (Some number) (events_of later)) (rw takes.1 opens) (rest (Some number) (grind (arith, nat_tests)))
+taking-rises newest h other later opens takes rest = rest newest opens
 
 cut-rises : (newest : Option ℕ) (h : Hold) (cut : Cut) → NextOpens newest h.newest → IsCut h cut → IsTrue (rises_from newest (events_of (cut_steps cut)))
-cut-rises newest h NoRoom opens fits = refl
-cut-rises newest h AcceptFailed opens fits = refl
-cut-rises newest h (OpenFailed place number) opens fits = refl
 cut-rises newest h (Midway taking done wire at) opens fits =
     taking-rises newest h taking (flat_map done_steps done) opens fits.takes
     (λ n o. let all : rises_from n (events_of (flat_map done_steps done)) ≡ true = rw (← append-nil (flat_map done_steps done)) (round-rises n done []) in all)
+cut-rises newest h other opens fits = refl
 
 acts-rise : (newest : Option ℕ) (h : Hold) (acts : List Act) (cut : Cut) → NextOpens newest h.newest → AreActs h acts
     → IsCut (after_acts h acts) cut → IsTrue (rises_from newest (served_events acts cut))
@@ -187,6 +178,6 @@ acts-rise newest h (Ordered event reply ∷ acts) cut opens are fits = by event 
   by (Schedule inst octets) order rest = rest
   by (Withdraw inst id) order rest = rest
 
-pub served-rises : {Tables : Type 0} {state : Tables → State} {rows : List Row} {first last : ServerView Tables} {acts : List Act} {cut : Cut}
+pub served_rises : {Tables : Type 0} {state : Tables → State} {rows : List Row} {first last : ServerView Tables} {acts : List Act} {cut : Cut}
     → Served state rows first last acts cut → IsTrue (is_well_formed_history (served_events acts cut))
-served-rises {acts = acts} {cut = cut} served = acts-rise None nothing_held acts cut refl served.are served.fits
+served_rises {acts = acts} {cut = cut} served = acts-rise None nothing_held acts cut refl served.are served.fits

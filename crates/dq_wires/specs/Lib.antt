@@ -20,5 +20,6 @@ pub mod Watching
 pub mod Times
 pub mod SocketTurns
 pub mod SocketLimits
+pub mod Lingering
 pub mod Sockets
 pub mod LogWords

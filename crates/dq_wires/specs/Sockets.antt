@@ -1,5 +1,5 @@
 -- Wires over sockets: what is held, and what changes in a turn.
-use Rattle.std.specs.Prelude.{◌≡◌, ◌-◌, nat_lt, true, ◌&&◌, ◌||◌, ℕ, Bool, false, not, is_some, if◌then◌else◌, map, replicate, Option, Some, None, option_map, Result, Ok}
+use Rattle.std.specs.Prelude.{◌≡◌, ◌-◌, nat_lt, true, ◌&&◌, ◌||◌, ℕ, Bool, false, not, is_some, if◌then◌else◌, [], map, replicate, Option, Some, None, option_map, Result, Ok}
 use Rattle.std.specs.Option.{option_and_then}
 use Rattle.std.specs.Time.{instant_nanos}
 use Rattle.std.specs.declared.time.Instant.{Instant}
@@ -19,6 +19,7 @@ use Rattle.dq_wires.specs.SocketTurns.{turn_begun, is_waiting, goes_on, passed_o
 -- No connection has come yet, and none is given up by itself.
 pub record IsIdle (wires : SocketWires) : Type 0 where
   pub connections : wires.connections.items ≡ replicate most_wires None
+  pub lingering : wires.lingering.sockets.items ≡ []
   pub limits : wires.limits ≡ record { artim = None; quiet = None; peer_connections = None }
   pub turned_away : wires.turned_away ≡ None
   pub failed_accepts : wires.failed_accepts ≡ 0

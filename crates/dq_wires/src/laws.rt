@@ -46,6 +46,7 @@ use dq_tables::Tables;
 
 /// The steps of turns are a history of the plain server: its events come after those that the
 /// server stands for, and its replies are those of the plain server.
+#[tactic(auto, using(crate::proofs::Histories::runs_serve))]
 pub fn steps_are_a_history<T: Tables>()
     ensures { (old new : ServerView T) (steps : List Step) →
         Runs (Moves T.state) old new steps →
@@ -55,6 +56,7 @@ pub fn steps_are_a_history<T: Tables>()
 /// No octet is lost or made. In the turn of a connection what was unsent, and what is then
 /// answered, is what is written, what is lost with a connection that is given up, and what is then
 /// unsent; and so over whole turns, under the number of each connection.
+#[tactic(auto, using(crate::proofs::Conserving::action_conserves, crate::proofs::Numbered::turns_conserve))]
 pub fn octets_are_conserved()
     ensures turn { (wire : HeldConnection) (action : ConnectionAction) → IsDue wire action →
         let d : Done = record { wire = wire; action = action } in
@@ -69,18 +71,21 @@ pub fn octets_are_conserved()
 {}
 
 /// The numbers of the connections that are held rise, and none is above the newest.
+#[tactic(auto, using(crate::proofs::Conserving::turns_number))]
 pub fn numbers_rise()
     ensures { (h : Hold) (turns : List Turn) → IsNumbered h → AreTurns h turns →
         IsNumbered (after_turns h turns) }
 {}
 
 /// No more connections are held than there is room for.
+#[tactic(auto, using(crate::proofs::Conserving::turns_fit))]
 pub fn no_more_are_held_than_fit()
     ensures { (h : Hold) (turns : List Turn) → length h.held ≤ most_wires → AreTurns h turns →
         length (after_turns h turns).held ≤ most_wires }
 {}
 
 /// Steps after a look do not see what it leaves: a step after a look is just that step.
+#[tactic(auto, using(crate::proofs::Looking::stepped_after))]
 pub fn looks_leave_no_trace<T: Tables>()
     ensures { (old mid new : ServerView T) (event : Event) (reply : Reply) →
         Looked T.state old mid → Stepped T.state mid new event reply →

@@ -1,10 +1,13 @@
 //! Wires over sockets.
 ghost use Rattle.std.specs.Prelude.{◌≡◌, ◌≤◌, true, length, Some, None, Ok, IsOk, IfOk, IfSome};
+ghost use Rattle.std.specs.Duration.{as_nanos};
+ghost use Rattle.dq_wires.specs.Lingering.{longest_rest, MayLinger};
 ghost use Rattle.dq_wires.specs.Logs.{IfGot};
 ghost use Rattle.dq_wires.specs.SocketLimits.{crowded_end};
 ghost use Rattle.dq_wires.specs.SocketTurns.{is_preceded, is_behind};
 ghost use Rattle.dq_wires.specs.Sockets.{IsIdle, BeginsTurn, IsOffered, IsShared, is_recent, is_tcp, is_put_off, TakesTurn};
 
+mod lingering;
 mod slots;
 mod socket;
 mod socket_connection;
@@ -12,6 +15,7 @@ mod socket_connection;
 use crate::calls::{Progress, ReadTurn, WireFault};
 use crate::given_up::{GivenUp, GivesUp, Limits, Reason};
 use crate::limits::MOST_WIRES;
+use crate::sockets::lingering::LingeringSockets;
 use crate::sockets::socket::{Door, Socket};
 use crate::sockets::socket_connection::SocketConnection;
 use crate::wires::Wires;
@@ -46,7 +50,8 @@ const PASSING: [i32; 16] = [
 /// what it has told to be ready, and tell no calls to contracts. A connection that they give up is
 /// one that ended. Where reads between two rests take long, one connection is read of those that have
 /// the same titles, and of the answers that go on one does in each turn. The others bring and take
-/// nothing until it is their turn: one peer's many do not slow others.
+/// nothing until it is their turn: one peer's many do not slow others. A socket of TCP that was shut is
+/// read for two seconds at most, until its peer closes it.
 #[derive(Drop)]
 pub struct SocketWires {
     clock: HostRuntime,
@@ -56,6 +61,7 @@ pub struct SocketWires {
     is_called: bool,
     is_called_beside: bool,
     connections: Vec<Option<SocketConnection>>,
+    lingering: LingeringSockets,
     is_busy: bool,
     reading: Reading,
     /// Whether an answer went on in this turn.
@@ -100,6 +106,7 @@ impl SocketWires {
         door.register(poll.registry(), LISTENER)?;
         let events = Events::with_capacity(alloc, MOST_EVENTS)?;
         let connections = slots::none(alloc)?;
+        let lingering = LingeringSockets::none(alloc)?;
         Ok(SocketWires {
             clock: *rt,
             poll,
@@ -108,6 +115,7 @@ impl SocketWires {
             is_called: true,
             is_called_beside: false,
             connections,
+            lingering,
             is_busy: false,
             reading: Reading::default(),
             has_gone_on: false,
@@ -169,8 +177,9 @@ impl SocketWires {
         }
     }
 
-    // Asks the system what may be done, and waits for it so long.
+    // Asks the system what may be done, and waits for it so long at most.
     fn look(&mut self, clock: &impl Clock, most: Duration) -> io::Result<()> {
+        let most = self.longest_rest(most);
         self.poll.poll(&mut self.events, Some(most))?;
         for event in self.events.iter() {
             let Token(place) = event.token();
@@ -182,8 +191,18 @@ impl SocketWires {
                 connection.wake(event);
             }
         }
-        self.grow_old(Instant::now(clock)?);
+        let now = Instant::now(clock)?;
+        self.grow_old(now);
+        self.lingering.read(now);
         Ok(())
+    }
+
+    /// Returns how long a rest may be, of one that is so long at most: it is short while sockets
+    /// linger that were shut.
+    pub fn longest_rest(&self, most: Duration) -> Duration
+        ensures { as_nanos result ≡ longest_rest (as_nanos most) self.now.lingering.sockets.items }
+    {
+        self.lingering.longest_rest(most)
     }
 
     // The time since the system was last asked has passed on each connection.
@@ -393,6 +412,20 @@ impl SocketWires {
         *slot = Some(SocketConnection::new(socket, peer));
         Some(place)
     }
+
+    // Sends no more on a connection. Its socket lingers if it is one of TCP: on one of the machine
+    // itself the peer has what was sent, whatever is unread.
+    fn end(&mut self, connection: SocketConnection) -> Result<(), WireFault>
+        ensures others { self.new ≡ record self.old { lingering = self.new.lingering } }
+        ensures lingering { MayLinger self.old.lingering.sockets.items self.new.lingering.sockets.items }
+    {
+        if let Socket::Tcp(stream) = connection.end()?
+            && let Ok(since) = Instant::now(&self.clock)
+        {
+            self.lingering.admit(self.poll.registry(), stream, since);
+        }
+        Ok(())
+    }
 }
 
 // Whether the next accept may succeed.
@@ -457,7 +490,7 @@ impl Wires for SocketWires {
         self.is_busy = true;
         match slot.take() {
             None => Err(WireFault),
-            Some(connection) => connection.end(),
+            Some(connection) => self.end(connection),
         }
     }
 }

@@ -5,10 +5,10 @@ ghost use Rattle.std.specs.List.{filter_map};
 ghost use Rattle.std.specs.Result.{result_ok};
 ghost use Rattle.dq_dimse.specs.Holding.{plain_message};
 ghost use Rattle.dq_dimse.specs.Receiving.{identifier_in};
-ghost use Rattle.dq_match.specs.Answers.{found_part};
 ghost use Rattle.dq_match.specs.Parts.{part_of, found_of};
 ghost use Rattle.dq_match.specs.Identifiers.{HasKnownTags};
 ghost use Rattle.dq_match.specs.Matching.{fits};
+ghost use Rattle.dq_match.specs.ShownPages.{found_page};
 ghost use Rattle.dq_tables.specs.Records.{data_set_of};
 ghost use Rattle.dq_tables.specs.declared.row.Row.{Row as TheRow};
 ghost use Rattle.dq_tables.specs.TableStates.{Reads};
@@ -26,7 +26,7 @@ use dq_dimse::Message;
 use dq_dimse::status::SUCCESS;
 use dq_list::Listed;
 use dq_match::laws::keys_are_met_alone_and_as_a_period;
-use dq_match::{Found, PageCollector, PreparedKeys, is_plain, shown};
+use dq_match::{Found, PageCollector, PreparedKeys, ShownPage, is_plain, shown};
 use dq_tables::laws::honest_rows_are_sound;
 use dq_tables::{Kind, Row, TableFault, Tables, sole_item_at};
 use dq_vr::{Tag, tags};
@@ -174,23 +174,22 @@ pub fn query_with_identifier<T: Tables>(
     Ok((found, identifier.ok()))
 }
 
-/// Answers keys that no message brought, as `query` answers the identifier of a message: the answers
-/// from a place on, at most so many. Nothing is changed.
+/// Answers keys that no message brought, as `query` answers the identifier of a message. Returns a page
+/// of the answers. Nothing is changed.
 #[tactic(auto, unfolding(crate::specs::Queries::keys_outcome))]
 pub fn query_by_keys<T: Tables>(
     tables: &mut T,
     institution: &Institution,
     identifier: &DataSet,
-    from: usize,
-    most: usize,
+    page: ShownPage,
 ) -> Result<Found, TableFault>
-    ensures found { (T.state tables.new).honest → IfOk result (λ found. found ≡ found_part from most
+    ensures found { (T.state tables.new).honest → IfOk result (λ found. found ≡ found_page page
         (keys_outcome (of institution.now.name (T.state tables.old).rows) identifier.now)) }
     ensures reads { Reads (T.state tables.old) (T.state tables.new) result }
 {
     let mut kept = Archive::new(tables, institution);
     let asked = query_at(kept.alloc, identifier)?;
-    answers_to(&mut kept, asked, from, Some(most))
+    answers_to(&mut kept, asked, page.offset, Some(page.most()))
 }
 
 /// The answers to a query from a place on, at most so many where there is a most, or the status that

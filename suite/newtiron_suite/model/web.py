@@ -21,6 +21,8 @@ from .upper_layer import EXPLICIT
 # octets its array, unless its first answer alone is longer.
 LEVELS = {"studies": b"STUDY", "series": b"SERIES", "images": b"IMAGE", "study images": b"IMAGE"}
 USUAL_PAGE, LONGEST_PAGE, LONGEST_VALUE = 100, 1000, 65534
+# The unique key of the levels (PS3.4 section C.6.2.1) whose pages may begin after one.
+UNIQUE_KEYS = {"studies": (0x0020, 0x000D), "series": (0x0020, 0x000E), "images": (0x0008, 0x0018)}
 LONGEST_ARRAY = 8 * 1024 * 1024
 CHARACTER_SET, LEVEL, STEPS = (0x0008, 0x0005), (0x0008, 0x0052), (0x0040, 0x0100)
 LEFT_OUT = ("includefield=", "fuzzymatching=")
@@ -127,27 +129,54 @@ def tag_of(name: str) -> Any:
     return tag if tag in DICTIONARY else None
 
 
-def is_unknown(part: str) -> bool:
+def is_of_page(name: str, subject: str) -> bool:
+    """Whether a parameter says what a page shows."""
+    return name in ("limit", "offset") or name == "after" and subject in UNIQUE_KEYS
+
+
+def is_unknown(part: str, subject: str) -> bool:
     """Whether a part of a query names neither an attribute nor the page, and says nothing else."""
     name = part.partition("=")[0]
-    return bool(part) and not part.startswith(LEFT_OUT) and name not in ("limit", "offset") \
+    return bool(part) and not part.startswith(LEFT_OUT) and not is_of_page(name, subject) \
         and tag_of(name) is None
 
 
-def words_of(text: str, has_keys: bool) -> tuple[dict[tuple[int, int], bytes], dict[str, int]]:
-    """The values of attributes that the parts of a query give, if it may have any, the limit and
-    the offset."""
-    keys, page = {}, {"limit": USUAL_PAGE, "offset": 0}
+@dataclasses.dataclass
+class Page:
+    """What a query says of its page: the unique key after which its rows begin, how many of these
+    are passed over, and how many are shown."""
+    after: bytes | None = None
+    offset: int = 0
+    limit: int = USUAL_PAGE
+
+
+def take_page(page: Page, name: str, value: str, part: str) -> None:
+    """Takes a part of a query that says what the page shows."""
+    if name == "after":
+        page.after = urllib.parse.unquote_to_bytes(value)
+        if len(page.after) > LONGEST_VALUE:
+            raise BadWord(part)
+    elif re.fullmatch(r"\+?[0-9]+", value) and int(value) < 2 ** 64:
+        setattr(page, name, int(value))
+    else:
+        raise BadWord(part)
+
+
+def words_of(text: str, subject: str) -> tuple[dict[tuple[int, int], bytes], Page]:
+    """The values of attributes that the parts of a query give, if it may have any, and the
+    page."""
+    keys: dict[tuple[int, int], bytes] = {}
+    page = Page()
     for part in filter(None, text.split("&")):
-        if part.startswith(LEFT_OUT) or is_unknown(part):
+        if part.startswith(LEFT_OUT) or is_unknown(part, subject):
             continue
         name, equals, value = part.partition("=")
-        if name in page and re.fullmatch(r"\+?[0-9]+", value) and int(value) < 2 ** 64:
-            page[name] = int(value)
+        if equals and is_of_page(name, subject):
+            take_page(page, name, value, part)
             continue
         tag = tag_of(name)
         octets = value_of(DICTIONARY[tag], value) if equals and tag is not None else None
-        if octets is None or not has_keys:
+        if octets is None or subject == "steps":
             raise BadWord(part)
         keys.setdefault(tag, octets)
     return keys, page
@@ -167,7 +196,7 @@ def identifier(keys: dict[tuple[int, int], bytes], level: bytes,
 def searched(records: Records, subject: str, text: str,
              above: dict[tuple[int, int], bytes]) -> tuple[list[list[Element]], int]:
     """The data sets of a page, and the status of the search."""
-    keys, page = words_of(text, subject != "steps")
+    keys, page = words_of(text, subject)
     keys |= above
     if subject == "steps":
         found, status = [step for _, step in sorted(records.steps.items())], 0
@@ -180,7 +209,17 @@ def searched(records: Records, subject: str, text: str,
             _, found, status = services.find_in_study(records, asked, EXPLICIT)
         else:
             _, found, status = services.find(records, b"", asked, EXPLICIT)
-    return found[page["offset"]:][:min(page["limit"], LONGEST_PAGE)], status
+    found = [one for one in found if is_behind(one, subject, page.after)]
+    return found[page.offset:][:min(page.limit, LONGEST_PAGE)], status
+
+
+def is_behind(answer: list[Element], subject: str, after: bytes | None) -> bool:
+    """Whether the unique key of an answer comes behind a key, if there is one, in the order of
+    octets."""
+    if after is None:
+        return True
+    key: Any = next(value for tag, _, value in answer if tag == UNIQUE_KEYS[subject])
+    return bytes(key).rstrip(b"\0") > after
 
 
 def json_of(data_set: list[Element]) -> str:
@@ -209,7 +248,7 @@ def answered(records: Records, subject: str, text: str,
         return refused(413 if status == services.OUT_OF_RESOURCES else 400, f"{status:04X}")
     if not found:
         return Answer(204)
-    limit = words_of(text, subject != "steps")[1]["limit"]
+    limit = words_of(text, subject)[1].limit
     shown = shown_of([json_of(one).encode() for one in found])
     is_full = len(shown) < len(found) or len(found) == min(limit, LONGEST_PAGE)
     return Answer(200, DICOM_JSON, array_of(shown), {"Warning": FULL} if is_full else {})
@@ -411,8 +450,9 @@ class Front:
         answer = answered(records, subject, query,
                           {tag: data_sets.padded("UI", uid.encode()) for tag, uid in uids})
         parts = query.split("&")
-        warnings = [LITERAL] * ("fuzzymatching=true" in parts) + [IGNORED] * any(
-            map(is_unknown, parts)) + [FULL] * ("Warning" in answer.fields)
+        has_unknown = any(is_unknown(part, subject) for part in parts)
+        warnings = [LITERAL] * ("fuzzymatching=true" in parts) + [IGNORED] * has_unknown \
+            + [FULL] * ("Warning" in answer.fields)
         if answer.status in (200, 204) and warnings:
             answer.fields["Warning"] = ", ".join(warnings)
         return Answer(200, DICOM_JSON, b"[]",

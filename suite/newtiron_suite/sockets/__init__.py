@@ -14,6 +14,8 @@
     deaf        a client that reads nothing takes neither time nor memory from others, and is then
                 answered whole
     resets      connections that are reset in every state leave nothing behind
+    lingering   a peer that goes on sending after an A-ABORT or a rejection gets it whole, with no
+                reset
     half        a stream that ends at each of its octets is answered as far as it goes
     long        C-STOREs whose data sets are made as they are sent: one of 256 MiB, one of which too
                 much would be kept
@@ -59,7 +61,7 @@ from .common import WANTED
 from .console import browser, callers, console, file, searches
 from .exits import exits, listen
 from .limits import artim, peers, quiet
-from .loads import deaf, half, idle, long, many, pages, resets, shares, unread
+from .loads import deaf, half, idle, lingering, long, many, pages, resets, shares, unread
 from .log import log
 from .memory import memory
 from .stops import repeats, stops
@@ -67,11 +69,11 @@ from .tools import tools
 
 PARTS: dict[str, Part] = {
     "captures": captures, "histories": two_hospitals, "pages": pages, "many": many,
-    "shares": shares, "unread": unread, "deaf": deaf, "resets": resets, "half": half, "long": long,
-    "stops": stops, "repeats": repeats, "idle": idle, "exits": exits, "listen": listen,
-    "loopback": loopback, "console": console, "backup": backup, "searches": searches,
-    "memory": memory, "file": file, "callers": callers, "browser": browser, "artim": artim,
-    "peers": peers, "quiet": quiet, "log": log, "tools": tools,
+    "shares": shares, "unread": unread, "deaf": deaf, "resets": resets, "half": half,
+    "lingering": lingering, "long": long, "stops": stops, "repeats": repeats, "idle": idle,
+    "exits": exits, "listen": listen, "loopback": loopback, "console": console, "backup": backup,
+    "searches": searches, "memory": memory, "file": file, "callers": callers, "browser": browser,
+    "artim": artim, "peers": peers, "quiet": quiet, "log": log, "tools": tools,
 }
 
 

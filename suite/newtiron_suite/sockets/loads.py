@@ -13,7 +13,7 @@ from ..measured import usual_worst
 from ..model import replies
 from ..model.long_stores import STUDY_ID, long_store
 from ..model.messages import LONGEST_STORED
-from ..model.upper_layer import ACCEPT, RELEASE_RP
+from ..model.upper_layer import ABORT, ACCEPT, REJECT, RELEASE_RP
 from ..paths import TOP, configured
 from ..scenes import ECHO, RELEASE, SERVED, message, octets_of
 from ..tally import Tally
@@ -277,6 +277,20 @@ def resets(tally: Tally, _: object) -> None:
             tally.check(f"{how} after {name}: served", until(lambda: serves(server, "CT1"), 5))
         tally.check("resets: it goes on", server.is_running() and not server.errors(),
                     server.errors())
+
+
+def lingering(tally: Tally, _: object) -> None:
+    """After the server's last PDU a peer may still send (PS3.8 section 9.2.3, Sta13)."""
+    with Serving(PROGRAM, *configured("hospitals")) as server:
+        for what, octets, kind in (
+                ("a PDU of an unknown type", bytes(6), ABORT),
+                ("a rejection", octets_of(f"associate 1 ARCHIVE CT9 {SERVED}")[0], REJECT)):
+            with server.connect() as client:
+                goes_on = client.goes_on(octets + bytes(1_000_000))
+                last = client.pdu()
+                tally.check(f"who goes on sending after {what}",
+                            goes_on and last is not None and last[0] == kind
+                            and not client.rest(), goes_on, last)
 
 
 def half(tally: Tally, _: object) -> None:

@@ -18,6 +18,7 @@
     viewers     a viewer of another origin: what its pages may read, and other origins
     grammar     requests that are none, that are too long, that come in pieces or many at once;
                 100-continue, and HTTP/1.0
+    lingering   clients that go on sending after the last response: it comes whole, with no reset
     slow        clients that say nothing or read nothing: others are served beside them
     late        heads and bodies that do not come in their time
     crowd       more connections of one address than it may have
@@ -26,6 +27,10 @@
     metrics     each line of the metrics, and what they count
     backup      the operator's backup, and its refusals
     log         the line of each request
+    line        one line of the log for each request, and none of the console's, whatever octets
+                its target, its fields and its body have
+    memory      allocations refused one at a time while a request is answered, over rows in memory
+                and over a store: who asked is let go, as the log says, and others are served
     proxies     what a proxy says of the address of its clients, and how many it may connect
     curl        the same by curl, where it is installed
     lists       the page in headless Chromium, where it is installed: its lists, their order,
@@ -45,7 +50,10 @@ import sys
 from ..tally import Part, play_parts
 from .entries import entries, looks
 from .keys import keys
+from .lingering import lingering
 from .loads import crowd, late, many, places, slow
+from .memory import memory
+from .one_line import one_line
 from .operator import backup, curl, log, metrics
 from .others import nginx, orthanc, proxies
 from .page import browser, items, lists, page, picture
@@ -57,10 +65,10 @@ from .viewers import viewers
 PARTS: dict[str, Part] = {
     "page": page, "keys": keys, "rights": rights, "anew": anew, "hospitals": hospitals,
     "searches": searches, "entries": entries, "looks": looks, "methods": methods, "hosts": hosts,
-    "viewers": viewers, "grammar": grammar, "slow": slow, "late": late, "crowd": crowd,
-    "places": places, "many": many, "metrics": metrics, "backup": backup, "log": log,
-    "proxies": proxies, "curl": curl, "lists": lists, "items": items, "browser": browser,
-    "orthanc": orthanc, "nginx": nginx,
+    "viewers": viewers, "grammar": grammar, "lingering": lingering, "slow": slow, "late": late,
+    "crowd": crowd, "places": places, "many": many, "metrics": metrics, "backup": backup,
+    "log": log, "line": one_line, "memory": memory, "proxies": proxies, "curl": curl,
+    "lists": lists, "items": items, "browser": browser, "orthanc": orthanc, "nginx": nginx,
 }
 
 

@@ -9,7 +9,7 @@ import sqlite3
 import subprocess
 import sys
 import tempfile
-from collections.abc import Iterable
+from collections.abc import Iterable, Mapping
 from typing import Any
 
 from ..client import HOST, Serving, free_port
@@ -72,7 +72,8 @@ class Pair:
     def __init__(self, folder: pathlib.Path, *words: pathlib.Path | str,
                  configuration: str = "hospitals", web_host: str | None = None,
                  web_origin: str | None = None,
-                 limited: Iterable[tuple[str, str, str]] = ()) -> None:
+                 limited: Iterable[tuple[str, str, str]] = (),
+                 environment: Mapping[str, object] | None = None) -> None:
         self.folder = pathlib.Path(tempfile.mkdtemp(dir=folder))
         path = CONFIGURATIONS / f"{configuration}.toml"
         self.model = replies.Server(replies.read_configuration(path.read_text()))
@@ -87,7 +88,7 @@ class Pair:
         host += ["--web-origin", web_origin] if web_origin else []
         self.server = Serving(PROGRAM, "--config", path, "--web", self.port, "--web-keys",
                               self.folder / "keys", *host, *words,
-                              has_console=True)
+                              has_console=True, environment=environment)
         self.scene, self.clients = compose.Scene(), {}
 
     def __enter__(self) -> Pair:

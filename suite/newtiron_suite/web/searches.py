@@ -48,6 +48,14 @@ SEARCHES = [
     "rs/studies?offset=3",
     "rs/studies?offset=1&limit=1", "rs/studies?limit=0", "rs/studies?limit=100000",
     "rs/studies?offset=18446744073709551615",
+    # after a key: of a study, of none, and with other words
+    "rs/studies?after=1.2.0", "rs/studies?after=1.2.2", "rs/studies?after=1.2.05",
+    "rs/studies?after=", "rs/studies?after=9", "rs/studies?after=1%2E2.0", "rs/studies?after=%FF",
+    "rs/studies?after=1.2.0%00", "rs/studies?after=1.2.0,1.2.1", "rs/studies?limit=1&after=1.2.0",
+    "rs/studies?after=1.2.0&offset=1", "rs/studies?after=1.2.1&after=1.2.0",
+    "rs/studies?after=1.2.0&PatientID=P2", "rs/studies?after=1.2.0&PatientID=P0",
+    "rs/studies?PatientName=D*&after=1.2.0", "rs/studies?StudyInstanceUID=1.2.2,1.2.0&after=1.2.0",
+    "rs/studies?StudyInstanceUID=1.2.0&after=1.2.0", "rs/studies?StudyDate=20240702-&after=1.2.1",
     "rs/studies?StudyDate=20240702-", "rs/studies?StudyDate=20240701-20240702",
     "rs/studies?StudyDate=-20240701",
     "rs/studies?StudyDate=20240702&PatientID=P1", "rs/studies?StudyInstanceUID=1.2.0%5C1.2.2",
@@ -68,20 +76,27 @@ SEARCHES = [
     "rs/studies?PatientID=P1&x", "rs/studies?%50atientID=P1", "rs/studies?limits=1",
     "rs/studies?00091001=x&PatientID=P1", "rs/studies?x\"\\=1",
     "rs/studies?00400100.00400002=20240705", "steps?x=1", "rs/studies/1.2.0/series?x=1",
+    "worklist?after=S2", "steps?after=1.2.0", "rs/studies/1.2.0/instances?after=1.2.0.1.1",
+    "rs/studies?After=1.2.0",
     # refused
-    "rs/studies?PatientID", "rs/studies?limit=x", "rs/studies?limit=-1", "rs/studies?limit",
-    "rs/studies?offset=1.5", "rs/studies?limit=", "rs/studies?StudyDate=yesterday",
+    "rs/studies?PatientID", "rs/studies?after", "rs/studies?limit=x", "rs/studies?limit=-1",
+    "rs/studies?limit", "rs/studies?offset=1.5", "rs/studies?limit=",
+    "rs/studies?StudyDate=yesterday",
     "rs/studies?StudyDate=20240230", "rs/studies?Rows=x",
     "rs/studies?limit=18446744073709551616", "rs/studies?ScheduledProcedureStepSequence=x",
     # below
     "rs/studies/1.2.0/series", "rs/studies/1.2.0/series?Modality=MR",
     "rs/studies/1.2.0/series?SeriesNumber=1",
     "rs/studies/1.2.0/series?limit=1&offset=1", "rs/studies/1.2.99/series",
+    "rs/studies/1.2.0/series?after=1.2.0.1", "rs/studies/1.2.0/series?after=1.2.0.2",
+    "rs/studies/1.2.0/series?after=1.2.0",
     "rs/studies/nothing/series",
     "rs/studies/1.2.0/series?StudyInstanceUID=1.2.1", "rs/studies/1.2.0/series/1.2.0.1/instances",
     "rs/studies/1.2.0/series/1.2.0.1/instances?InstanceNumber=2",
     "rs/studies/1.2.0/series/1.2.1.1/instances",
     "rs/studies/1.2.0/series/1.2.0.1/instances?limit=1",
+    "rs/studies/1.2.0/series/1.2.0.1/instances?after=1.2.0.1.1",
+    "rs/studies/1.2.0/series/1.2.0.1/instances?after=1.2.0.1.2",
     "rs/studies/1.2.0/instances", "rs/studies/1.2.0/instances?limit=1&offset=1",
     "rs/studies/1.2.0/instances?offset=2", "rs/studies/1.2.0/instances?InstanceNumber=2",
     "rs/studies/1.2.0/instances?SeriesInstanceUID=1.2.0.2",
@@ -143,7 +158,9 @@ def searches(tally: Tally, folder: pathlib.Path) -> None:
             tally.check("many on one connection", each == [200] * 7 + [204, 200], each)
         forms(tally, pair)
         study_images(tally, pair)
+        late_studies(tally, pair)
         long_page(tally, pair)
+        pages_after(tally, pair)
         pair.is_right(tally, "searches")
     names(tally, folder)
     character_sets(tally, folder)
@@ -223,9 +240,14 @@ def study_images(tally: Tally, pair: Pair) -> None:
                 told.head)
 
 
-def long_page(tally: Tally, pair: Pair, count: int = 96) -> None:
+# Studies that come late, and how many fill a page of a hundred with those that are there before.
+LATE = ["1.2.0.5", "1.2.1.5"]
+LONG_STUDIES = 94
+
+
+def long_page(tally: Tally, pair: Pair) -> None:
     """A page has 100 answers where nothing else is said."""
-    for at in range(3, 3 + count):
+    for at in range(3, 3 + LONG_STUDIES):
         pair.play(store_line(1, f"1.2.{at}.1.1", f"1.2.{at}", PatientName=f"LONG^{at}",
                              StudyDescription="x" * 60))
     tally.check("a hundred studies",
@@ -237,6 +259,41 @@ def long_page(tally: Tally, pair: Pair, count: int = 96) -> None:
     for target in ("rs/studies", "rs/studies?limit=1000", "rs/studies?PatientName=LONG*&offset=90",
                    "rs/studies?limit=100&offset=100"):
         pair.compare(tally, "a long page", "GET", f"/NORTH/{target}", "NORTH")
+
+
+def study_page(pair: Pair, query: str) -> list[str]:
+    """The Study Instance UIDs that a query shows."""
+    told = pair.ask("GET", f"/NORTH/rs/studies?{query}", "NORTH")
+    return [study["0020000D"]["Value"][0] for study in (told.json() if told.body else [])]
+
+
+def late_studies(tally: Tally, pair: Pair) -> None:
+    """Studies that come between two pages: one before the key after which the second begins, and
+    one behind it."""
+    first = study_page(pair, "limit=2")
+    for uid in LATE:
+        pair.play(store_line(1, f"{uid}.1.1", uid, PatientName="LATE"))
+    rest = study_page(pair, f"after={first[-1]}")
+    tally.check("studies that come between two pages",
+                (first, rest) == (["1.2.0", "1.2.1"], ["1.2.1.5", "1.2.2", "1.5"]), first, rest)
+
+
+def pages_after(tally: Tally, pair: Pair) -> None:
+    """Pages, each after the key of the last row of the one before, show what pages by offset show:
+    each row once, in the order of keys."""
+    seen = list[str]()
+    while found := study_page(pair, "limit=20" + (f"&after={seen[-1]}" if seen else "")):
+        tally.check(f"the page by offset {len(seen)}",
+                    found == study_page(pair, f"limit=20&offset={len(seen)}"), found)
+        seen += found
+    kept = [f"1.2.{at}" for at in range(3 + LONG_STUDIES)] + ["1.5", *LATE]
+    tally.check("pages after keys show each study once", seen == sorted(kept), seen)
+    for query, wanted in (("after=1.2.5&limit=2", ["1.2.50", "1.2.51"]),
+                          ("after=1.2.49.9&limit=1", ["1.2.5"]), ("after=1.5", []),
+                          ("after=1.2.9&offset=5&limit=2", ["1.2.95", "1.2.96"]),
+                          ("after=1.2.95&limit=9", ["1.2.96", "1.5"])):
+        found = study_page(pair, query)
+        tally.check(f"a page after a key, by hand: {query}", found == wanted, found)
 
 
 def names(tally: Tally, folder: pathlib.Path) -> None:

@@ -4,27 +4,12 @@ use Rattle.std.specs.Prelude.{IsSome}
 use Rattle.std.specs.List.{AllByRecursion}
 use Rattle.std.proofs.lemmas.List.{append-nil}
 use Rattle.std.proofs.lemmas.Bool.{false≢true}
-use Rattle.dq_pdu.specs.declared.pdu.Request.{Request}
+use Rattle.dq_core.proofs.isolation.Vocabulary.{Request, Verdict, Input, Requested, Sent, line, inputs, Agreement, Institution, Event, Row, Limits, agreement_of, Record, records_after_edits, ConsoleOrder, Scheduling, Withdrawal, Progress, Answer, input_answer, input_answers, then_answer, request_in, progress_of, inputs_added, piece_answer, stranger_answer, after_piece, Connection, new_connection, with_piece, with_query, connection_in, owner, owner_by, is_sound_request, World, turn, answer_by, piece_turn, end_turn, pull_turn, order_turn, world_after_turn, world_from, first_world, world_after}
 use Rattle.dq_pdu.specs.Stream.{pdus_within}
 use Rattle.dq_assoc.specs.declared.association.State.TheVariants.{Waiting, Open}
-use Rattle.dq_assoc.specs.declared.association.Verdict.{Verdict}
-use Rattle.dq_assoc.specs.Table.{Input, Requested, Sent, line}
-use Rattle.dq_assoc.specs.Inputs.{inputs}
-use Rattle.dq_assoc.specs.declared.agreement.Agreement.{Agreement}
-use Rattle.dq_config.specs.declared.config.Institution.{Institution}
-use Rattle.dq_core.specs.declared.event.Event.{Event}
 use Rattle.dq_core.specs.declared.event.Event.TheVariants as event
-use Rattle.dq_tables.specs.declared.row.Row.{Row}
-use Rattle.dq_config.specs.Limits.{Limits}
 use Rattle.dq_config.specs.Routing.{institution_routed, institution_named}
-use Rattle.dq_assoc.specs.Negotiation.{agreement_of}
-use Rattle.dq_tables.specs.Rows.{Record, records_after_edits}
-use Rattle.dq_core.specs.Services.{ConsoleOrder, Scheduling, Withdrawal}
 use Rattle.dq_core.specs.Pages.{OpenQuery, next_page, reaction}
-use Rattle.dq_core.specs.Answers.{Progress, Answer, input_answer, input_answers, then_answer, request_in, progress_of, inputs_added, piece_answer, stranger_answer, after_piece}
-use Rattle.dq_core.specs.Connections.{Connection, new_connection, with_piece, with_query, connection_in}
-use Rattle.dq_core.specs.Owners.{owner, owner_by, is_sound_request}
-use Rattle.dq_core.specs.Shared.{World, turn, answer_by, piece_turn, end_turn, pull_turn, order_turn, world_after_turn, world_from, first_world, world_after}
 use Rattle.dq_core.specs.Accepted.{AreMessageInputs, AreOpen}
 use Rattle.dq_core.proofs.isolation.Lists.{found-has, each-append, each-without, each-with}
 use Rattle.dq_core.proofs.isolation.Requests.{nowhere-closes, open-line, accept-line}
@@ -145,30 +130,29 @@ module _ (adds : AddsInputs) (institutions : List Institution) where
   open-from world [] each = each
   open-from world (e ∷ events) each = open-from (world_after_turn world (turn institutions world e)) events (turn-open world each e)
 
-  pub held-open : (rows : List Row) (events : List Event) (number : ℕ) (c : Connection)
+  pub held_open : (rows : List Row) (events : List Event) (number : ℕ) (c : Connection)
       → connection_in number (world_after institutions rows events).connections ≡ Some c → AreOpen institutions (inputs c.stream)
-  held-open rows events number c e =
+  held_open rows events number c e =
       found-has IsOpen number (world_after institutions rows events).connections c e (open-from (first_world rows) events tt)
 
 -- a request that did not close was accepted with the verdict at hand
 first-accepted : (limits : Limits) (verdict : Verdict) (records : List Record) (query : Option OpenQuery) (request : Request) (xs : List Input)
     → request_in xs ≡ Some request
     → (input_answers limits verdict (record { agreement = None; records = records; query = query }) xs).close ≡ false → (line Waiting verdict (Requested request)).next ≡ Open
-first-accepted limits verdict records query request [] e h = cc
 first-accepted limits verdict records query request (Requested r ∷ xs) e h =
     let first = input_answer limits verdict (record { agreement = None; records = records; query = query }) (Requested r) in
     let same : request ≡ r = cc in
     rw same (open-line r verdict (both-open first (input_answers limits verdict first.next xs) first.close refl h).0)
-first-accepted limits verdict records query request (x ∷ xs) e h = cc
+first-accepted limits verdict records query request other e h = cc
 
 no-request-before : (xs ys : List Input) (request : Request) → request_in xs ≡ None → request_in (xs ++ ys) ≡ Some request → xs ≡ []
 no-request-before [] ys request e f = refl
 no-request-before (x ∷ xs) ys request e f = let same = request_in-first x (xs ++ ys) xs in cc
 
-pub request-accepted : AddsInputs → (limits : Limits) (verdict : Verdict) (records : List Record) (c : Connection) (piece : List ℕ) (request : Request)
+pub request_accepted : AddsInputs → (limits : Limits) (verdict : Verdict) (records : List Record) (c : Connection) (piece : List ℕ) (request : Request)
     → request_in (inputs c.stream) ≡ None → request_in (inputs (c.stream ++ piece)) ≡ Some request
     → (piece_answer limits verdict records c piece).close ≡ false → (line Waiting verdict (Requested request)).next ≡ Open
-request-accepted adds limits verdict records c piece request e f h =
+request_accepted adds limits verdict records c piece request e f h =
     let stream = c.stream in
     let joined : request_in (inputs stream ++ inputs_added stream piece) ≡ Some request = ap request_in (sym (added-are adds stream piece)) ∙ f in
     let none = no-request-before (inputs stream) (inputs_added stream piece) request e joined in

@@ -1,13 +1,8 @@
 -- What inputs are answered with, part by part.
 use Rattle.std.proofs.Common.{◌≡◌, Bool, true, false, List, [], ◌∷◌, ◌++◌, Option, Some, None, refl, sym, ap, ◌∙◌, append_assoc}
-use Rattle.dq_assoc.specs.declared.association.Verdict.{Verdict}
-use Rattle.dq_assoc.specs.Table.{Input, Requested, Sent}
-use Rattle.dq_assoc.specs.declared.agreement.Agreement.{Agreement}
-use Rattle.dq_config.specs.Limits.{Limits}
-use Rattle.dq_tables.specs.Rows.{Record, records_after_edits}
+use Rattle.dq_core.proofs.isolation.Vocabulary.{Verdict, Input, Requested, Sent, Agreement, Limits, Record, records_after_edits, Progress, Answer, input_answer, agreement_by, message_answer, then_answer, input_answers}
 use Rattle.dq_core.specs.Pages.{OpenQuery, reaction}
 use Rattle.dq_core.specs.Effects.{agreement_after}
-use Rattle.dq_core.specs.Answers.{Progress, Answer, input_answer, agreement_by, message_answer, then_answer, input_answers}
 
 -- answers follow one another, up to the first that closes
 follow_on : (a b c : Answer) (p q : Bool) → a.close ≡ p → b.close ≡ q → then_answer (then_answer a b) c ≡ then_answer a (then_answer b c)
@@ -35,10 +30,9 @@ module _ (limits : Limits) (verdict : Verdict) where
   -- what was agreed stays
   open-agreement : (records : List Record) (query : Option OpenQuery) (agreement : Agreement) (xs : List Input)
       → (input_answers limits verdict (record { agreement = Some agreement; records = records; query = query }) xs).next.agreement ≡ Some agreement
-  open-agreement records query agreement [] = refl
   open-agreement records query agreement (Sent message ∷ xs) =
       let r = reaction query limits records agreement message in open-agreement (records_after_edits r.edits records) r.query agreement xs
-  open-agreement records query agreement (x ∷ xs) = refl
+  open-agreement records query agreement other = refl
 
   then-agreement : (a b : Answer) (o : Option Agreement) (p : Bool) → a.close ≡ p → a.next.agreement ≡ o → b.next.agreement ≡ o
       → (then_answer a b).next.agreement ≡ o
@@ -48,11 +42,10 @@ module _ (limits : Limits) (verdict : Verdict) where
   next-at : (records : List Record) (query : Option OpenQuery) (o : Option Agreement) (xs : List Input)
       → (input_answers limits verdict (record { agreement = o; records = records; query = query }) xs).next.agreement ≡ agreement_after o xs
   next-at records query (Some agreement) xs = open-agreement records query agreement xs
-  next-at records query None [] = refl
   next-at records query None (Requested request ∷ xs) =
       let first = input_answer limits verdict (record { agreement = None; records = records; query = query }) (Requested request) in
       then-agreement first (input_answers limits verdict first.next xs) (agreement_by (Requested request)) first.close refl refl (open-agreement records query _ xs)
-  next-at records query None (x ∷ xs) = refl
+  next-at records query None other = refl
 
   pub next-agreement : (progress : Progress) (xs : List Input) → (input_answers limits verdict progress xs).next.agreement ≡ agreement_after progress.agreement xs
   next-agreement progress xs = next-at progress.records progress.query progress.agreement xs
@@ -61,12 +54,11 @@ module _ (limits : Limits) (verdict : Verdict) where
   open-verdict : (other : Verdict) (records : List Record) (query : Option OpenQuery) (agreement : Agreement) (xs : List Input) →
       let progress : Progress = record { agreement = Some agreement; records = records; query = query } in
       input_answers limits verdict progress xs ≡ input_answers limits other progress xs
-  open-verdict other records query agreement [] = refl
   open-verdict other records query agreement (Sent message ∷ xs) =
       let r = reaction query limits records agreement message in
       ap (then_answer (message_answer r (record { agreement = Some agreement; records = records; query = query })))
       (open-verdict other (records_after_edits r.edits records) r.query agreement xs)
-  open-verdict other records query agreement (x ∷ xs) = refl
+  open-verdict other records query agreement others = refl
 
   pub verdict-unread : (other : Verdict) (records : List Record) (query : Option OpenQuery) (o : Option Agreement) (agreement : Agreement) (xs : List Input) → o ≡ Some agreement →
       let progress : Progress = record { agreement = o; records = records; query = query } in

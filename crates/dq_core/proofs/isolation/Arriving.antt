@@ -1,19 +1,10 @@
 -- What comes on a connection, comes while the rows are good, and what is sent are octets.
 use Rattle.std.proofs.Common.{ℕ, zero, ◌==◌, Bool, true, false, if◌then◌else◌, List, [], ◌∷◌, ◌++◌, length, drop}
 use Rattle.std.specs.List.{AllByRecursion}
-use Rattle.dq_assoc.specs.Inputs.{inputs}
-use Rattle.dq_assoc.specs.Table.{Input, Sent}
-use Rattle.dq_config.specs.declared.config.Institution.{Institution}
-use Rattle.dq_tables.specs.declared.row.Row.{Row}
-use Rattle.dq_tables.specs.Rows.{Operation, after}
-use Rattle.dq_core.specs.declared.event.Event.{Event}
+use Rattle.dq_core.proofs.isolation.Vocabulary.{inputs, Input, Sent, Institution, Row, Operation, after, Event, octets_of_pieces, stream_of, World, turn, world_after, BringsOctets, BringOctets, ServicesKeep, Arrival, InputAt, PageRequest, ConnectionEnd, input_arrivals, arrivals_at, arrivals}
 use Rattle.dq_core.specs.declared.event.Event.TheVariants as event
-use Rattle.dq_core.specs.Own.{octets_of_pieces, stream_of}
-use Rattle.dq_core.specs.Shared.{World, turn, world_after}
-use Rattle.dq_core.specs.Soundness.{BringsOctets, BringOctets}
-use Rattle.dq_core.specs.Conversations.{Arrival, InputAt, PageRequest, ConnectionEnd, input_arrivals, arrivals_at, arrivals}
 use Rattle.dq_core.proofs.isolation.Octets.{Small, SmallInput, from-octets, each-joined, each-dropped, stream_inputs-small}
-use Rattle.dq_core.proofs.isolation.Keeping.{ServicesKeep, Edits, Stay, stay-taken, turn-kept, history-kept, history-came}
+use Rattle.dq_core.proofs.isolation.Keeping.{Edits, Stay, stay-taken, turn-kept, history-kept, history-came}
 
 -- ---- streams
 

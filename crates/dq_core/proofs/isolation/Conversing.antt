@@ -4,28 +4,11 @@ use Rattle.std.specs.List.{AllByRecursion, flat_map}
 use Rattle.std.proofs.lemmas.Bool.Decides.{nat_tests}
 use Rattle.std.proofs.lemmas.Bool.{false≢true}
 use Rattle.std.proofs.lemmas.List.{append-nil, map-append}
-use Rattle.dq_pdu.specs.declared.pdu.Request.{Request}
-use Rattle.dq_assoc.specs.declared.agreement.Agreement.{Agreement}
-use Rattle.dq_assoc.specs.Negotiation.{agreement_of}
-use Rattle.dq_assoc.specs.Table.{Input, Requested}
-use Rattle.dq_assoc.specs.Inputs.{inputs}
-use Rattle.dq_config.specs.declared.config.Institution.{Institution}
-use Rattle.dq_tables.specs.declared.row.Row.{Row}
+use Rattle.dq_core.proofs.isolation.Vocabulary.{Request, Agreement, agreement_of, Input, Requested, inputs, Institution, Row, Event, Reply, next_page, Answer, no_answer, request_in, progress_of, inputs_added, verdict_at, Connection, new_connection, with_piece, with_query, connection_in, without, owner, owner_by, live_of, is_above, newest_after, rises_from, is_well_formed_history, IsRun, Output, Octet, Close, is_on_connection, octets_of_pieces, stream_of, close_if, outputs_in, outputs_on, World, EventEffect, turn, answer_turn, world_after_turn, world_from, replies_from, first_world, replies, world_after, Arrival, PageRequest, ConnectionEnd, input_arrivals, arrivals_at, arrivals, exchange, conversation, conversation_on, IsAnsweredAt}
 use Rattle.dq_tables.specs.Rows.{of, by}
-use Rattle.dq_core.specs.declared.event.Event.{Event}
 use Rattle.dq_core.specs.declared.event.Event.TheVariants as event
-use Rattle.dq_core.specs.declared.event.Reply.{Reply}
-use Rattle.dq_core.specs.Pages.{next_page}
-use Rattle.dq_core.specs.Answers.{Answer, no_answer, request_in, progress_of, inputs_added, verdict_at}
-use Rattle.dq_core.specs.Connections.{Connection, new_connection, with_piece, with_query, connection_in, without}
-use Rattle.dq_core.specs.Owners.{owner, owner_by, live_of}
-use Rattle.dq_core.specs.Histories.{is_above, newest_after, rises_from, is_well_formed_history}
-use Rattle.dq_core.specs.Runs.{IsRun}
-use Rattle.dq_core.specs.Own.{Output, Octet, Close, is_on_connection, octets_of_pieces, stream_of, close_if, outputs_in, outputs_on}
-use Rattle.dq_core.specs.Shared.{World, EventEffect, turn, answer_turn, world_after_turn, world_from, replies_from, first_world, replies, world_after}
-use Rattle.dq_core.specs.Conversations.{Arrival, PageRequest, ConnectionEnd, input_arrivals, arrivals_at, arrivals, exchange, conversation, conversation_on, IsAnsweredAt}
 use Rattle.dq_core.proofs.isolation.Lists.{at-number, differ, NotNumbered, found-number, found-has, found-with, left-have, in-among}
-use Rattle.dq_core.proofs.isolation.Streams.{AddsInputs, added-are, owner-stays, no_input_yet, front_without, request_in-first}
+use Rattle.dq_core.proofs.isolation.Streams.{AddsInputs, added-are, owner_stays, no_input_yet, front_without, request_in-first}
 use Rattle.dq_core.proofs.isolation.Strangers.{kept}
 use Rattle.dq_core.proofs.isolation.Promise.{replies-front}
 use Rattle.dq_core.proofs.isolation.Sound.{Owned, Sound, IsBefore, owned-piece, sound-next}
@@ -64,9 +47,8 @@ request-stays (x ∷ xs) ys a e = ap (option_map agreement_of) (request_in-first
 
 first-request : (institutions : List Institution) (i : Institution) (xs : List Input) → owner_by institutions (request_in xs) ≡ Some i
     → (request : Request) × (ys : List Input) × (xs ≡ Requested request ∷ ys)
-first-request institutions i [] e = cc
 first-request institutions i (Requested request ∷ ys) e = (request, ys, refl)
-first-request institutions i (x ∷ ys) e = cc
+first-request institutions i other e = cc
 
 above-past : (newest : Option ℕ) (n number : ℕ) → is_above newest n ≡ true → is_above newest number ≡ false → nat_lt n number ≡ false
 above-past None n number h k = absurd (false≢true (sym k))
@@ -168,8 +150,7 @@ module _ (adds : AddsInputs) (lens : Edits) (institutions : List Institution) (r
   quiet world (event.Pull n) none m x =
       let o : connection_in n world.connections ≡ None = ap (λ k. connection_in k world.connections) (at-number n number m) ∙ none in
       record { outputs = rw o refl; none = rw o none }
-  quiet world (event.Schedule inst octets) none m x = absurd (false≢true m)
-  quiet world (event.Withdraw inst id) none m x = absurd (false≢true m)
+  quiet world other none m x = absurd (false≢true m)
 
   -- its number is not opened again
   past-next : (newest : Option ℕ) (e : Event) (rest : List Event) → rises_from newest (e ∷ rest) ≡ true → is_above newest number ≡ false
@@ -305,7 +286,7 @@ module _ (adds : AddsInputs) (lens : Edits) (institutions : List Institution) (r
       by_owner : (o : Option Institution) → owner institutions (c.stream ++ p) ≡ o
           → owner institutions ((c.stream ++ p) ++ octets_of_pieces c.number rest) ≡ Some i → (o ≡ Some i) ⊎ ((o ≡ None) × (inputs (c.stream ++ p) ≡ []))
       by_owner None e final = inr (refl, no_input_yet adds institutions (c.stream ++ p) (octets_of_pieces c.number rest) i e final)
-      by_owner (Some j) e final = inl (sym (owner-stays adds institutions (c.stream ++ p) (octets_of_pieces c.number rest) j e) ∙ final)
+      by_owner (Some j) e final = inl (sym (owner_stays adds institutions (c.stream ++ p) (octets_of_pieces c.number rest) j e) ∙ final)
 
   -- ---- the association is open
 
@@ -450,8 +431,7 @@ module _ (adds : AddsInputs) (lens : Edits) (institutions : List Institution) (r
       let is = at-number n number m in rw is (open-end before newest world c a rest (rw is at s) h)
   open-on (event.Pull n) before newest world c a rest s h later m =
       let is = at-number n number m in rw is (open-pull before newest world c a rest (rw is at s) h later)
-  open-on (event.Schedule inst octets) before newest world c a rest s h later m = absurd (false≢true m)
-  open-on (event.Withdraw inst id) before newest world c a rest s h later m = absurd (false≢true m)
+  open-on other before newest world c a rest s h later m = absurd (false≢true m)
 
   open-at : (e : Event) (before : List Event) (newest : Option ℕ) (world : World) (c : Connection) (a : Agreement) (rest : List Event)
       → Kept newest world (e ∷ rest) → IsOpen before world c a → OpenSaid rest → (b : Bool) → is_on_connection number e ≡ b
@@ -559,8 +539,7 @@ module _ (adds : AddsInputs) (lens : Edits) (institutions : List Institution) (r
       let is = at-number n number m in absurd (waiting-ended before newest world c rest (rw is at s) h)
   waiting-on (event.Pull n) before newest world c rest s h later m =
       let is = at-number n number m in rw is (waiting-pull before newest world c rest (rw is at s) h later)
-  waiting-on (event.Schedule inst octets) before newest world c rest s h later m = absurd (false≢true m)
-  waiting-on (event.Withdraw inst id) before newest world c rest s h later m = absurd (false≢true m)
+  waiting-on other before newest world c rest s h later m = absurd (false≢true m)
 
   waiting-at : (e : Event) (before : List Event) (newest : Option ℕ) (world : World) (c : Connection) (rest : List Event)
       → Kept newest world (e ∷ rest) → IsWaiting before world c → WaitingSaid rest → (b : Bool) → is_on_connection number e ≡ b
@@ -623,10 +602,9 @@ module _ (adds : AddsInputs) (lens : Edits) (institutions : List Institution) (r
   unopened-comes before world (event.Piece n p) rest h k m x =
       ap (λ xs. conversation institutions i (xs ++ coming (before ++ event.Piece n p ∷ []) rest))
       (still-comes before n p (unopened-stream (before ++ event.Piece n p ∷ []) (next_world world (event.Piece n p)) k ∙ sym (unopened-stream before world h)))
-  unopened-comes before world (event.End n) rest h k m x = rw m refl
-  unopened-comes before world (event.Pull n) rest h k m x = rw m refl
   unopened-comes before world (event.Schedule inst octets) rest h k m x = refl
   unopened-comes before world (event.Withdraw inst id) rest h k m x = refl
+  unopened-comes before world other rest h k m x = rw m refl
 
   opens-stream : (e : Event) → OpensNone e → (more : List Event) → stream_of number (e ∷ more) ≡ stream_of number more
   opens-stream (event.Open n) x more = absurd x
@@ -745,7 +723,7 @@ module _ (adds : AddsInputs) (lens : Edits) (institutions : List Institution) (r
       → is_on_connection number e ≡ true → IsAnsweredAt institutions rows events number i e
   conversed-at events e w o m =
       let grown = stream-grows events e in
-      let owned = ap (owner institutions) grown.1 ∙ owner-stays adds institutions (stream_of number events) grown.0 i o in
+      let owned = ap (owner institutions) grown.1 ∙ owner_stays adds institutions (stream_of number events) grown.0 i o in
       sym (conversed (events ++ e ∷ []) w owned)
       ∙ last-answered (first_world rows) events e m
       ∙ ap (λ xs. xs ++ outputs_in (turn institutions (world_after institutions rows events) e).reply) (conversed events (rises-front None events e w) o)

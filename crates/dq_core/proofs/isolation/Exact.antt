@@ -3,37 +3,18 @@ use Rattle.std.proofs.Common.{◌≡◌, ℕ, ◌==◌, Bool, true, false, if◌
 use Rattle.std.specs.Prelude.{◌≢◌}
 use Rattle.std.specs.List.{AllByRecursion}
 use Rattle.std.specs.Str.{bytes_eq}
-use Rattle.dq_dataset.specs.Tree.{ElementList}
-use Rattle.dq_dataset.specs.declared.header.Syntax.{Syntax}
-use Rattle.dq_dimse.specs.CommandFields.{c_cancel, c_echo, c_find, c_store, n_create, n_set}
-use Rattle.dq_dimse.specs.Received.{Message}
-use Rattle.dq_dimse.specs.Statuses.{success}
-use Rattle.dq_assoc.specs.declared.agreement.AcceptedContext.{AcceptedContext}
-use Rattle.dq_assoc.specs.declared.agreement.Agreement.{Agreement}
+use Rattle.dq_core.proofs.isolation.Vocabulary.{ElementList, Syntax, c_cancel, c_echo, c_find, c_store, n_create, n_set, Message, success, AcceptedContext, Agreement, Verification, Storage, StudyRootFind, WorklistFind, PerformedProcedureStep, service_of, uid_of, context_of, Sent, Institution, Limits, limits_of, Row, IsSound, Event, DimseOperation, Echo, Store, FindStudies, FindEntries, CreateStep, SetStep, HoldSound, BringOctets, ServicesKeep, Arrival, InputAt, arrivals, IsExactAt}
 use Rattle.dq_assoc.specs.declared.classes.Service.{Service}
-use Rattle.dq_assoc.specs.declared.classes.Service.TheVariants.{Verification, Storage, StudyRootFind, WorklistFind, PerformedProcedureStep}
-use Rattle.dq_assoc.specs.Classes.{service_of, uid_of}
-use Rattle.dq_assoc.specs.Negotiation.{context_of}
-use Rattle.dq_assoc.specs.Table.{Sent}
-use Rattle.dq_config.specs.declared.config.Institution.{Institution}
-use Rattle.dq_config.specs.Limits.{Limits, limits_of}
 use Rattle.dq_match.specs.declared.responses.Found.{Found}
 use Rattle.dq_find.specs.declared.query.Query.{Query}
 use Rattle.dq_find.specs.Queries as study
 use Rattle.dq_find.specs.Answers as study_answers
 use Rattle.dq_worklist.specs.Queries as worklist
 use Rattle.dq_worklist.specs.Answers as worklist_answers
-use Rattle.dq_tables.specs.declared.row.Row.{Row}
 use Rattle.dq_tables.specs.Rows.{Record, of}
-use Rattle.dq_tables.specs.Sound.{IsSound}
-use Rattle.dq_core.specs.declared.event.Event.{Event}
 use Rattle.dq_core.specs.Services.{Response, Responses, responses, pending_response, pending_responses, operation_named, operation_outcome, outcome_of, message_outcome, service_of_message}
-use Rattle.dq_core.specs.declared.dimse_operation.DimseOperation.{DimseOperation}
-use Rattle.dq_core.specs.declared.dimse_operation.DimseOperation.TheVariants.{Echo, Store, FindStudies, FindEntries, CreateStep, SetStep}
 use Rattle.dq_core.specs.Searches.{AreAnswersOf, AreExact}
-use Rattle.dq_core.specs.Soundness.{HoldSound, BringOctets}
-use Rattle.dq_core.specs.Conversations.{Arrival, InputAt, arrivals, IsExactAt}
-use Rattle.dq_core.proofs.isolation.Keeping.{ServicesKeep, Edits}
+use Rattle.dq_core.proofs.isolation.Keeping.{Edits}
 use Rattle.dq_core.proofs.isolation.Arriving.{IsMetAt, each-met}
 
 -- ---- queries over sound rows

@@ -1,19 +1,12 @@
 -- Where all responses are sent, pulls only cut them into pages.
 use Rattle.std.proofs.Common.{◌≡◌, ℕ, suc, ◌*◌, nat_le, true, List, [], ◌∷◌, ◌++◌, map, length, Option, Some, None, inl, inr, refl, sym, ap, ◌∙◌}
 use Rattle.std.specs.List.{flat_map}
-use Rattle.dq_dimse.specs.Received.{Message}
+use Rattle.dq_core.proofs.isolation.Vocabulary.{Message, Agreement, Sent, line, answer_octets, Institution, limits_of, page_length, Output, Octet, Close, Arrival, InputAt, PageRequest, ConnectionEnd, Next, Cancel, AnotherMessage, NoMessage, sequel, all_responses, responses_in_pages, responses_sent, response_octets_of, exchange, AreAllSent, AreFinished, without_page_requests}
 use Rattle.dq_dimse.specs.Sending.{message_pdus}
-use Rattle.dq_assoc.specs.declared.agreement.Agreement.{Agreement}
 use Rattle.dq_assoc.specs.declared.association.State.TheVariants.{Open}
 use Rattle.dq_assoc.specs.declared.association.Verdict.TheVariants.{Accept}
-use Rattle.dq_assoc.specs.Table.{Sent, line, answer_octets}
-use Rattle.dq_config.specs.declared.config.Institution.{Institution}
-use Rattle.dq_config.specs.Limits.{limits_of}
 use Rattle.dq_tables.specs.Rows.{of}
 use Rattle.dq_core.specs.Services.{Response, Responses, service_of_message}
-use Rattle.dq_core.specs.Pages.{page_length}
-use Rattle.dq_core.specs.Own.{Output, Octet, Close}
-use Rattle.dq_core.specs.Conversations.{Arrival, InputAt, PageRequest, ConnectionEnd, Next, Cancel, AnotherMessage, NoMessage, sequel, all_responses, responses_in_pages, responses_sent, response_octets_of, exchange, AreAllSent, AreFinished, without_page_requests}
 
 -- all responses to a message
 abbrev whole_octets : Agreement → Message → Option Responses → List ℕ
@@ -22,12 +15,11 @@ whole_octets a m (Some r) = flat_map (λ (x : Response). message_pdus m.context 
 
 -- an exchange without pages
 abbrev in_full : Institution → Agreement → List Arrival → List Output
-in_full i a [] = []
 in_full i a (PageRequest ∷ later) = in_full i a later
-in_full i a (ConnectionEnd ∷ later) = []
 in_full i a (InputAt world (Sent m) ∷ later) =
     map Octet (whole_octets a m (service_of_message (limits_of i) (of i.name world.rows) a m).responses) ++ in_full i a later
 in_full i a (InputAt world input ∷ later) = map Octet (answer_octets (line Open Accept input).answer) ++ Close ∷ []
+in_full i a other = []
 
 held-whole : (r : Responses) (pages : ℕ) (instead : List Response) → nat_le (length r.pending) (pages * page_length) ≡ true
     → responses_in_pages pages r instead ≡ all_responses r
@@ -46,24 +38,20 @@ whole-sent a m s (Some r) (inr held) =
     ap (flat_map (λ (x : Response). message_pdus m.context x.0 x.1 a.limit)) (held-sent r (suc s.0) s.1 held)
 
 finished-full : (i : Institution) (a : Agreement) (xs : List Arrival) → AreFinished i a xs → exchange i a xs ≡ in_full i a xs
-finished-full i a [] h = refl
 finished-full i a (PageRequest ∷ later) h = finished-full i a later h
-finished-full i a (ConnectionEnd ∷ later) h = refl
 finished-full i a (InputAt world (Sent m) ∷ later) h =
     let o = (service_of_message (limits_of i) (of i.name world.rows) a m).responses in
     ap (λ xs. map Octet xs ++ exchange i a later) (whole-sent a m (sequel m.command.id later) o h.0)
     ∙ ap (λ xs. map Octet (whole_octets a m o) ++ xs) (finished-full i a later h.1)
-finished-full i a (InputAt world input ∷ later) h = refl
+finished-full i a other h = refl
 
 full-without : (i : Institution) (a : Agreement) (xs : List Arrival) → in_full i a xs ≡ in_full i a (without_page_requests xs)
-full-without i a [] = refl
 full-without i a (PageRequest ∷ later) = full-without i a later
-full-without i a (ConnectionEnd ∷ later) = refl
 full-without i a (InputAt world (Sent m) ∷ later) =
     ap (λ xs. map Octet (whole_octets a m (service_of_message (limits_of i) (of i.name world.rows) a m).responses) ++ xs) (full-without i a later)
-full-without i a (InputAt world input ∷ later) = refl
+full-without i a other = refl
 
-pub cut-alike : (i : Institution) (a : Agreement) (xs ys : List Arrival) → AreFinished i a xs → AreFinished i a ys
+pub cut_alike : (i : Institution) (a : Agreement) (xs ys : List Arrival) → AreFinished i a xs → AreFinished i a ys
     → without_page_requests xs ≡ without_page_requests ys → exchange i a xs ≡ exchange i a ys
-cut-alike i a xs ys h k e =
+cut_alike i a xs ys h k e =
     finished-full i a xs h ∙ full-without i a xs ∙ ap (in_full i a) e ∙ sym (full-without i a ys) ∙ sym (finished-full i a ys k)

@@ -2,14 +2,8 @@
 use Rattle.std.proofs.Common.{◌≡◌, ℕ, Bool, true, false, List, [], ◌∷◌, ◌++◌, Option, refl, sym, ap, ◌∙◌}
 use Rattle.std.specs.Prelude.{filter}
 use Rattle.std.specs.Str.{bytes_eq}
-use Rattle.dq_config.specs.declared.config.Institution.{Institution}
-use Rattle.dq_core.specs.declared.event.Event.{Event}
-use Rattle.dq_config.specs.Limits.{Limits}
+use Rattle.dq_core.proofs.isolation.Vocabulary.{Institution, Event, Limits, World, turn, world_after_turn, replies_from, world_from, AloneWorld, alone_turn, alone_after_turn, alone_replies_from, alone_world_from, is_on, replies_at, newest_after}
 use Rattle.dq_tables.specs.Rows.{of, after_all, edited_all, IsRising}
-use Rattle.dq_core.specs.Shared.{World, turn, world_after_turn, replies_from, world_from}
-use Rattle.dq_core.specs.Alone.{AloneWorld, alone_turn, alone_after_turn, alone_replies_from, alone_world_from}
-use Rattle.dq_core.specs.Own.{is_on, replies_at}
-use Rattle.dq_core.specs.Histories.{newest_after}
 use Rattle.dq_core.proofs.isolation.Streams.{AddsInputs}
 use Rattle.dq_core.proofs.isolation.Sound.{Sound, sound-next}
 use Rattle.dq_core.proofs.isolation.Isolating.{Lenses, IsMine, Configured, IsBeside, alike}

@@ -5,25 +5,13 @@ use Rattle.std.specs.List.{AllByRecursion}
 use Rattle.std.proofs.lemmas.Bool.{false≢true}
 use Rattle.std.proofs.lemmas.Slice.Eq.{bytes_eq-Decides}
 use Rattle.std.specs.Str.{bytes_eq}
-use Rattle.dq_assoc.specs.Table.{Input, Requested}
-use Rattle.dq_assoc.specs.Inputs.{inputs}
-use Rattle.dq_config.specs.declared.config.Institution.{Institution}
-use Rattle.dq_core.specs.declared.event.Event.{Event}
+use Rattle.dq_core.proofs.isolation.Vocabulary.{Input, Requested, inputs, Institution, Event, Row, Limits, limits_of, no_answer, request_in, progress_of, inputs_added, next_page, Connection, with_query, connection_in, owner, owner_by, is_institution, live_of, World, EventEffect, turn, answer_by, owner_turn, piece_turn, end_turn, pull_turn, order_turn, AloneWorld, AloneTurn, alone_live, alone_piece, alone_answer, alone_answer_turn, alone_end, alone_pull, alone_order, alone_turn, octets_of_pieces, is_on}
 use Rattle.dq_core.specs.declared.event.Event.TheVariants as event
-use Rattle.dq_tables.specs.declared.row.Row.{Row}
-use Rattle.dq_config.specs.Limits.{Limits, limits_of}
 use Rattle.dq_config.specs.Routing.{institution_named}
 use Rattle.dq_tables.specs.Rows.{Edit, records_after_edits, Operation, by, of, after, IsRising}
 use Rattle.dq_core.specs.Services.{ConsoleOrder, Scheduling, Withdrawal, console_outcome}
-use Rattle.dq_core.specs.Answers.{no_answer, request_in, progress_of, inputs_added}
-use Rattle.dq_core.specs.Pages.{next_page}
-use Rattle.dq_core.specs.Connections.{Connection, with_query, connection_in}
-use Rattle.dq_core.specs.Owners.{owner, owner_by, is_institution, live_of}
-use Rattle.dq_core.specs.Shared.{World, EventEffect, turn, answer_by, owner_turn, piece_turn, end_turn, pull_turn, order_turn}
-use Rattle.dq_core.specs.Alone.{AloneWorld, AloneTurn, alone_live, alone_piece, alone_answer, alone_answer_turn, alone_end, alone_pull, alone_order, alone_turn}
-use Rattle.dq_core.specs.Own.{octets_of_pieces, is_on}
 use Rattle.dq_core.proofs.isolation.Lists.{among, among-opened, in-among, without-among, with-among, piece-among, found-number, each-weaker}
-use Rattle.dq_core.proofs.isolation.Streams.{AddsInputs, owner-stays, no_input_yet, front_without}
+use Rattle.dq_core.proofs.isolation.Streams.{AddsInputs, owner_stays, no_input_yet, front_without}
 use Rattle.dq_core.proofs.isolation.Sound.{Owned, Sound, owned-piece}
 
 -- an operation changes its own institution's records, and no other's
@@ -49,9 +37,8 @@ is_of-some name (Some i) h = (i, refl, (bytes_eq-Decides i.name name).0 h)
 -- a connection of the institution that is held is counted once it has sent its request
 counted : (institutions : List Institution) (name : List ℕ) (xs ys : List Input) (m : Bool) → m ≡ is_institution name (owner_by institutions (request_in (xs ++ ys)))
     → is_institution name (owner_by institutions (request_in xs)) ≡ (m && is_some (request_in xs))
-counted institutions name [] ys m h = grind arith
 counted institutions name (Requested request ∷ xs) ys m h = rw (← h) (grind arith)
-counted institutions name (x ∷ xs) ys m h = grind arith
+counted institutions name other ys m h = grind arith
 
 count-each : (p m q : Connection → Bool) (cs : List Connection) → AllByRecursion (λ (c : Connection). p c ≡ (m c && q c)) cs
     → length (filter p cs) ≡ length (filter q (filter m cs))
@@ -91,7 +78,7 @@ module _ (adds : AddsInputs) (institutions : List Institution) (name : List ℕ)
       → IsAlike name mine (owner_turn o institutions world c piece) (alone_answer_turn alone c piece (alone_answer limits alone c piece))
   alike-owned rest c piece more each m final (Some i) e =
       let f = is_of-some name (owner institutions ((c.stream ++ piece) ++ more)) final in
-      let same : Some i ≡ Some f.0 = sym (owner-stays adds institutions (c.stream ++ piece) more i e) ∙ f.1 in
+      let same : Some i ≡ Some f.0 = sym (owner_stays adds institutions (c.stream ++ piece) more i e) ∙ f.1 in
       let i_is : i ≡ f.0 = cc in
       let n : i.name ≡ name = ap (λ (j : Institution). j.name) i_is ∙ f.2 in
       let l = configured.owner_limits (c.stream ++ piece) i e n in
@@ -168,8 +155,8 @@ module _ (adds : AddsInputs) (institutions : List Institution) (name : List ℕ)
   alike newest (event.Withdraw inst id) rest s m = alike-order inst (Withdrawal id) m
 
 -- the laws of rows as they are stated
-pub lenses-from : ((name : List ℕ) (edits : List Edit) (rows : List Row) → of name (after (by name edits) rows) ≡ records_after_edits edits (of name rows))
+pub lenses_from : ((name : List ℕ) (edits : List Edit) (rows : List Row) → of name (after (by name edits) rows) ≡ records_after_edits edits (of name rows))
     → ((name another : List ℕ) → (another ≡ name → ⊥) → (edits : List Edit) (rows : List Row) → IsRising rows
     → of name (after (by another edits) rows) ≡ of name rows)
     → ((operation : Operation) (rows : List Row) → IsRising rows → IsRising (after operation rows)) → Lenses
-lenses-from same other rising = record { same = same; other = λ name another edits rows ne r. other name another ne edits rows r; rising = rising }
+lenses_from same other rising = record { same = same; other = λ name another edits rows ne r. other name another ne edits rows r; rising = rising }

@@ -1,39 +1,15 @@
 -- What each service keeps true of the rows stays true of them, whatever octets the server is sent.
-use Rattle.std.proofs.Common.{◌≡◌, ℕ, zero, suc, ◌==◌, Bool, true, false, List, [], ◌∷◌, ◌++◌, map, take, drop, Option, Some, None, refl, sym, ap, ◌∙◌, subst}
+use Rattle.std.proofs.Common.{◌≡◌, ℕ, zero, suc, ◌==◌, Bool, true, false, List, [], ◌∷◌, ◌++◌, map, length, take, drop, Option, Some, None, refl, sym, ap, ◌∙◌, subst}
 use Rattle.std.specs.List.{AllByRecursion}
 use Rattle.std.specs.Option.{option_map_or}
 use Rattle.std.specs.Str.{bytes_eq}
 use Rattle.std.proofs.lemmas.List.{map-append}
-use Rattle.dq_list.specs.Octets.{AreOctets}
-use Rattle.dq_dataset.specs.declared.header.Syntax.{Syntax}
-use Rattle.dq_dimse.specs.CommandFields.{c_cancel}
-use Rattle.dq_dimse.specs.Received.{Message}
-use Rattle.dq_assoc.specs.declared.agreement.AcceptedContext.{AcceptedContext}
-use Rattle.dq_assoc.specs.declared.agreement.Agreement.{Agreement}
-use Rattle.dq_assoc.specs.declared.association.Verdict.{Verdict}
-use Rattle.dq_assoc.specs.Classes.{service_of, uid_of}
-use Rattle.dq_assoc.specs.Negotiation.{context_of}
-use Rattle.dq_assoc.specs.Table.{Input, Sent}
-use Rattle.dq_config.specs.declared.config.Institution.{Institution}
-use Rattle.dq_config.specs.Limits.{Limits, limits_of}
+use Rattle.dq_core.proofs.isolation.Vocabulary.{AreOctets, Syntax, c_cancel, Message, AcceptedContext, Agreement, Verdict, service_of, uid_of, context_of, Input, Sent, Institution, Limits, limits_of, Row, Event, Reply, IsRun, DimseOperation, Echo, Store, FindStudies, FindEntries, CreateStep, SetStep, Progress, Answer, input_answer, input_answers, answer_after, then_answer, progress_of, inputs_added, verdict_at, after_piece, Connection, new_connection, with_piece, with_query, connection_in, owner, live_of, World, turn, answer_by, operations_by, piece_turn, end_turn, pull_turn, order_turn, world_after_turn, world_from, first_world, world_after, operations_next, rows_within, HoldsOctets, BringsOctets, BringOctets, CameAsOctets, ServicesKeep}
 use Rattle.dq_config.specs.Routing.{institution_named}
-use Rattle.dq_tables.specs.declared.row.Row.{Row}
 use Rattle.dq_tables.specs.Rows.{Record, Edit, records_after_edits, Operation, by, of, after, after_all}
-use Rattle.dq_store.specs.CStore.{store_outcome}
-use Rattle.dq_worklist.specs.Orders.{schedule_outcome, withdrawn}
-use Rattle.dq_mpps.specs.NCreate.{create_outcome}
-use Rattle.dq_mpps.specs.NSet.{set_outcome}
-use Rattle.dq_core.specs.declared.event.Event.{Event}
 use Rattle.dq_core.specs.declared.event.Event.TheVariants as event
 use Rattle.dq_core.specs.Services.{ConsoleOrder, Scheduling, Withdrawal, console_outcome, service_of_message, served_by, no_response, operation_named, operation_outcome, outcome_of, message_outcome}
-use Rattle.dq_core.specs.declared.dimse_operation.DimseOperation.{DimseOperation}
-use Rattle.dq_core.specs.declared.dimse_operation.DimseOperation.TheVariants.{Echo, Store, FindStudies, FindEntries, CreateStep, SetStep}
 use Rattle.dq_core.specs.Pages.{OpenQuery, Reaction, next_page, reaction, reaction_while, cancel_reaction, first_reaction, answered_message_id}
-use Rattle.dq_core.specs.Answers.{Progress, Answer, input_answer, input_answers, answer_after, then_answer, progress_of, inputs_added, verdict_at, after_piece}
-use Rattle.dq_core.specs.Connections.{Connection, new_connection, with_piece, with_query, connection_in}
-use Rattle.dq_core.specs.Owners.{owner, live_of}
-use Rattle.dq_core.specs.Shared.{World, turn, answer_by, operations_by, piece_turn, end_turn, pull_turn, order_turn, world_after_turn, world_from, first_world, world_after, operations_next, rows_within}
-use Rattle.dq_core.specs.Soundness.{HoldsOctets, BringsOctets, BringOctets, CameAsOctets}
 use Rattle.dq_core.proofs.Composing.{after-append}
 use Rattle.dq_core.proofs.isolation.Lists.{found-has, each-append, each-without, each-with}
 use Rattle.dq_core.proofs.isolation.Octets.{SmallInput, from-octets, to-octets, each-joined, each-dropped, each-taken, added-small}
@@ -103,18 +79,6 @@ module _ (Good : List Row → Type 0) where
   abbrev Keep : List ℕ → List Edit → List Row → Type 0
   Keep name edits rows = Good (after (by name edits) rows)
 
-  pub record ServicesKeep : Type 0 where
-    pub storing : (name : List ℕ) (limits : Limits) (rows : List Row) (message : Message) (syntax : Syntax) → AreOctets message.octets → Good rows
-        → Good (after (by name (store_outcome limits (of name rows) message syntax).1) rows)
-    pub creating : (name : List ℕ) (limits : Limits) (rows : List Row) (message : Message) (syntax : Syntax) → AreOctets message.octets → Good rows
-        → Good (after (by name (create_outcome limits (of name rows) message syntax).1) rows)
-    pub changing : (name : List ℕ) (rows : List Row) (message : Message) (syntax : Syntax) → AreOctets message.octets → Good rows
-        → Good (after (by name (set_outcome (of name rows) message syntax).1) rows)
-    pub scheduling : (name : List ℕ) (limits : Limits) (rows : List Row) (octets : List ℕ) → AreOctets octets → Good rows
-        → Good (after (by name (schedule_outcome limits (of name rows) octets).1) rows)
-    pub withdrawing : (name : List ℕ) (rows : List Row) (id : List ℕ) → Good rows
-        → Good (after (by name (withdrawn (of name rows) id).1) rows)
-
   -- the rows stay good after each operation in turn
   abbrev pub Stay : List Operation → List Row → Type 0
   Stay [] rows = Good rows
@@ -162,15 +126,13 @@ module _ (Good : List Row → Type 0) where
         has = l.has ∙ ap (of name) (sym (after-append os ps rows) ∙ ap (λ (operations : List Operation). after_all operations rows) (sym joined));
       })
 
-  module _ (keep : ServicesKeep) (name : List ℕ) (limits : Limits) (rows : List Row) (good : Good rows) where
+  module _ (keep : ServicesKeep Good) (name : List ℕ) (limits : Limits) (rows : List Row) (good : Good rows) where
     operation-kept : (operation : DimseOperation) (called : List ℕ) (syntax : Syntax) (message : Message) → AreOctets message.octets
         → Keep name (operation_outcome operation called syntax limits message (of name rows)).1 rows
     operation-kept Store called syntax message are = keep.storing name limits rows message syntax are good
     operation-kept CreateStep called syntax message are = keep.creating name limits rows message syntax are good
     operation-kept SetStep called syntax message are = keep.changing name rows message syntax are good
-    operation-kept Echo called syntax message are = good
-    operation-kept FindStudies called syntax message are = good
-    operation-kept FindEntries called syntax message are = good
+    operation-kept other called syntax message are = good
 
     outcome-kept : (named : Option DimseOperation) (is_its_class : Bool) (called : List ℕ) (syntax : Syntax) (message : Message) → AreOctets message.octets
         → Keep name (outcome_of named is_its_class called syntax limits message (of name rows)).1 rows
@@ -218,16 +180,15 @@ module _ (Good : List Row → Type 0) where
         while-kept query message (first_reaction agreement message (service_of_message limits (of name rows) agreement message))
         (message.command.code == c_cancel) refl (served-kept agreement message are)
 
-  module _ (keep : ServicesKeep) (lens : Edits) (name : List ℕ) (limits : Limits) (verdict : Verdict) where
+  module _ (keep : ServicesKeep Good) (lens : Edits) (name : List ℕ) (limits : Limits) (verdict : Verdict) where
     after-kept : (o : Option Agreement) (agreed : Option Agreement) (query : Option OpenQuery) (rows : List Row) (x : Input) → SmallInput x → Good rows
         → Keeps name rows (answer_after o limits verdict (record { agreement = agreed; records = of name rows; query = query }) x)
-    after-kept None agreed query rows x s good = record { stay = good; has = refl }
     after-kept (Some agreement) agreed query rows (Sent message) s good =
         let edits = (reaction query limits (of name rows) agreement message).edits in record {
           stay = (good, reaction-kept keep name limits rows good query agreement message (to-octets message.octets s));
           has = sym (lens name edits rows);
         }
-    after-kept (Some agreement) agreed query rows x s good = record { stay = good; has = refl }
+    after-kept other agreed query rows x s good = record { stay = good; has = refl }
 
     answer-kept : (progress : Progress) (rows : List Row) (x : Input) → SmallInput x → Good rows → progress.records ≡ of name rows
         → Keeps name rows (input_answer limits verdict progress x)
@@ -247,7 +208,7 @@ module _ (Good : List Row → Type 0) where
 
   -- ---- turns and histories
 
-  module _ (keep : ServicesKeep) (lens : Edits) (institutions : List Institution) where
+  module _ (keep : ServicesKeep Good) (lens : Edits) (institutions : List Institution) where
     piece-kept : (world : World) (c : Connection) (piece : List ℕ) (o : Option Institution) → AreOctets c.stream → AreOctets piece → Good world.rows
         → Stay (operations_by o (answer_by o institutions world c piece).changes) world.rows
     piece-kept world c piece None came brings good = good
@@ -314,3 +275,7 @@ module _ (Good : List Row → Type 0) where
     within-kept rows events brings good answered operations =
         next-kept (world_after institutions rows (take answered events)) (drop answered events) (each-dropped BringsOctets answered events brings)
         (history-kept rows (take answered events) (each-taken BringsOctets answered events brings) good) operations
+
+    pub run-kept : (rows : List Row) (events : List Event) (given : List Reply) (kept : List Row) → IsRun institutions rows events given kept
+        → BringOctets events → Good rows → Good kept
+    run-kept rows events given kept run brings good = subst Good (sym run.rows_then) (within-kept rows events brings good (length given) run.operations)

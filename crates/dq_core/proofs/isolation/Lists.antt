@@ -3,8 +3,7 @@ use Rattle.std.proofs.Common.{◌≡◌, ℕ, ◌==◌, Bool, true, false, List,
 use Rattle.std.specs.Prelude.{filter}
 use Rattle.std.specs.List.{AllByRecursion}
 use Rattle.std.proofs.lemmas.Bool.Decides.{nat_tests}
-use Rattle.dq_core.specs.Answers.{Answer, after_piece}
-use Rattle.dq_core.specs.Connections.{Connection, new_connection, with_piece, connection_in, without, with_connection}
+use Rattle.dq_core.proofs.isolation.Vocabulary.{Answer, after_piece, Connection, new_connection, with_piece, connection_in, without, with_connection}
 
 -- the connections whose numbers pass a test
 abbrev pub among : (ℕ → Bool) → List Connection → List Connection

@@ -6,30 +6,17 @@ use Rattle.std.proofs.lemmas.Bool.Decides.{nat_tests}
 use Rattle.std.proofs.lemmas.Slice.Eq.{bytes_eq-Decides}
 use Rattle.std.proofs.lemmas.List.{append-nil}
 use Rattle.std.proofs.lemmas.List.Elements.{filter-append}
-use Rattle.dq_pdu.specs.declared.pdu.Request.{Request}
+use Rattle.dq_core.proofs.isolation.Vocabulary.{Request, Requested, line, inputs, Institution, Limits, limits_of, Row, is_closed, Event, ConsoleOrder, Scheduling, Withdrawal, request_in, verdict_at, after_piece, OpenQuery, Connection, new_connection, with_piece, with_query, connection_in, without, with_connection, HaveOwnNames, owner, owner_by, is_institution, live_of, World, turn, answer_by, piece_turn, end_turn, pull_turn, order_turn, world_after_turn, world_from, first_world, world_after}
 use Rattle.dq_assoc.specs.declared.association.State.TheVariants.{Waiting, Open}
 use Rattle.dq_assoc.specs.declared.association.Verdict.TheVariants.{Busy}
-use Rattle.dq_assoc.specs.Table.{Requested, line}
-use Rattle.dq_assoc.specs.Inputs.{inputs}
-use Rattle.dq_config.specs.declared.config.Institution.{Institution}
-use Rattle.dq_config.specs.Limits.{Limits, limits_of}
 use Rattle.dq_config.specs.Routing.{institution_named}
-use Rattle.dq_tables.specs.declared.row.Row.{Row}
 use Rattle.dq_tables.specs.Rows.{of}
-use Rattle.dq_assoc.specs.After.{is_closed}
-use Rattle.dq_core.specs.declared.event.Event.{Event}
 use Rattle.dq_core.specs.declared.event.Event.TheVariants as event
-use Rattle.dq_core.specs.Services.{ConsoleOrder, Scheduling, Withdrawal}
-use Rattle.dq_core.specs.Answers.{request_in, verdict_at, after_piece}
-use Rattle.dq_core.specs.Pages.{OpenQuery}
-use Rattle.dq_core.specs.Connections.{Connection, new_connection, with_piece, with_query, connection_in, without, with_connection}
-use Rattle.dq_core.specs.Owners.{HaveOwnNames, owner, owner_by, is_institution, live_of}
-use Rattle.dq_core.specs.Shared.{World, turn, answer_by, piece_turn, end_turn, pull_turn, order_turn, world_after_turn, world_from, first_world, world_after}
 use Rattle.dq_core.proofs.isolation.Lists.{found-number}
 use Rattle.dq_core.proofs.isolation.Requests.{busy-closes}
-use Rattle.dq_core.proofs.isolation.Streams.{AddsInputs, owner-stays, no_input_yet}
+use Rattle.dq_core.proofs.isolation.Streams.{AddsInputs, owner_stays, no_input_yet}
 use Rattle.dq_core.proofs.isolation.Isolating.{Configured}
-use Rattle.dq_core.proofs.isolation.Accepting.{no-inputs, request-accepted}
+use Rattle.dq_core.proofs.isolation.Accepting.{no-inputs, request_accepted}
 use Rattle.dq_core.proofs.isolation.Named.{configured}
 
 abbrev count : (Connection → Bool) → List Connection → ℕ
@@ -84,7 +71,7 @@ module _ (adds : AddsInputs) (institutions : List Institution) (name : List ℕ)
         let nothing = no_input_yet adds institutions c.stream piece i none e in
         let request = request-of institutions (request_in (inputs (c.stream ++ piece))) i e in
         let live = live_of institutions i.name world.connections in
-        let opens = request-accepted adds (limits_of i) (verdict_at i.associations live) (of i.name world.rows) c piece request.0
+        let opens = request_accepted adds (limits_of i) (verdict_at i.associations live) (of i.name world.rows) c piece request.0
         (ap request_in nothing) request.1 h in
         let below : live_of institutions i.name world.connections < i.associations = room-by i.associations live _ request.0 refl opens in
         rw (← known.owner_limits (c.stream ++ piece) i e n, ← n) below
@@ -102,7 +89,7 @@ module _ (adds : AddsInputs) (institutions : List Institution) (name : List ℕ)
         let room = has-room c piece i ((bytes_eq-Decides i.name name).0 h) g e close in
         let more = count-with is_its (with_piece c piece left) world.connections in omega arith
     within-joined c piece (Some i) (Some j) true false f e g h k close left =
-        let same : Some j ≡ Some i = sym (owner-stays adds institutions c.stream piece j g) ∙ e in
+        let same : Some j ≡ Some i = sym (owner_stays adds institutions c.stream piece j g) ∙ e in
         absurd (false≢true (sym k ∙ ap (is_institution name) same ∙ h))
 
     within-piece : (c : Connection) (piece : List ℕ) (p : Bool) → connection_in c.number world.connections ≡ Some c →
@@ -155,7 +142,7 @@ module _ (adds : AddsInputs) (institutions : List Institution) (name : List ℕ)
   from-within world [] l = l
   from-within world (e ∷ events) l = from-within (world_after_turn world (turn institutions world e)) events (turn-within world l e)
 
-pub live-within : AddsInputs → (institutions : List Institution) (rows : List Row) (events : List Event) (i : Institution) → HaveOwnNames institutions
+pub live_within : AddsInputs → (institutions : List Institution) (rows : List Row) (events : List Event) (i : Institution) → HaveOwnNames institutions
     → Contains institutions i → live_of institutions i.name (world_after institutions rows events).connections ≤ i.associations
-live-within adds institutions rows events i names c =
+live_within adds institutions rows events i names c =
     from-within adds institutions i.name (limits_of i) (configured institutions i names c) (first_world rows) events (omega arith)

@@ -3,14 +3,9 @@ use Rattle.std.proofs.Common.{◌≡◌, ℕ, zero, suc, ◌<◌, Bool, true, fa
 use Rattle.std.specs.Prelude.{find, Contains}
 use Rattle.std.proofs.lemmas.Bool.{false≢true}
 use Rattle.std.proofs.lemmas.Slice.Eq.{bytes_eq-Decides}
-use Rattle.dq_pdu.specs.declared.pdu.Request.{Request}
+use Rattle.dq_core.proofs.isolation.Vocabulary.{Request, inputs, Institution, limits_of, request_in, HaveOwnNames, is_sound_request, owner_by, owner}
 use Rattle.std.specs.Str.{bytes_eq}
-use Rattle.dq_assoc.specs.Inputs.{inputs}
-use Rattle.dq_config.specs.declared.config.Institution.{Institution}
-use Rattle.dq_config.specs.Limits.{limits_of}
 use Rattle.dq_config.specs.Routing.{institution_routed, institution_named}
-use Rattle.dq_core.specs.Answers.{request_in}
-use Rattle.dq_core.specs.Owners.{HaveOwnNames, is_sound_request, owner_by, owner}
 use Rattle.dq_core.proofs.isolation.Isolating.{Configured}
 use Rattle.dq_core.proofs.isolation.Others.{named-name}
 

@@ -2,12 +2,11 @@
 use Rattle.std.proofs.Common.{◌<◌, ℕ, zero, suc, ◌==◌, nat_lt, ◌||◌, not, Bool, true, false, if◌then◌else◌, List, [], ◌∷◌, ◌++◌, map, length, take, drop, slice_index, Option, Some, None, option_map, inl, inr, ◌+◌, arith}
 use Rattle.std.specs.List.{AllByRecursion}
 use Rattle.std.proofs.lemmas.Bool.{cases_Bool}
-use Rattle.dq_list.specs.Octets.{AreOctets}
+use Rattle.dq_core.proofs.isolation.Vocabulary.{AreOctets, Request, Message, agreement_of, context_ids, Input, Sent, leading_pdvs, after_leading_pdvs, closing_input, closing_inputs, inputs_past, inputs_after, misplaced_input, inputs_of_roles, inputs, inputs_added}
 use Rattle.dq_list.specs.Readers.{◌>>=◌, only_if}
 use Rattle.dq_list.specs.Lengths.{is_empty}
 use Rattle.dq_pdu.specs.declared.pdu.Pdu.{Pdu}
 use Rattle.dq_pdu.specs.declared.pdu.Pdu.TheVariants.{Request as request_pdu, Accept as accept_pdu, Reject, PData, ReleaseRq, ReleaseRp, Abort}
-use Rattle.dq_pdu.specs.declared.pdu.Request.{Request}
 use Rattle.dq_pdu.specs.declared.pdu.Accept.{Accept}
 use Rattle.dq_pdu.specs.declared.pdu.Pdv.{Pdv}
 use Rattle.dq_assoc.specs.Roles.{Role}
@@ -21,13 +20,8 @@ use Rattle.dq_pdu.specs.Stream.{Pdus, pdus_from, pdus_within, pdus_in}
 use Rattle.dq_assoc.specs.Roles.{role_of}
 use Rattle.dq_dimse.specs.declared.command.Command.{Command}
 use Rattle.dq_dimse.specs.declared.fault.DimseFault.{DimseFault}
-use Rattle.dq_dimse.specs.Received.{Message}
 use Rattle.dq_dimse.specs.Assembling.{PartialMessage, Nothing, CommandPart, DataPart, Spent, Gathering, gathers, stops_at, completes, command_completed, command_gathered, after_command, with_fragment, after_data, gather, gather_all, messages_from, messages}
 use Rattle.dq_dimse.specs.Messages.{data_limit}
-use Rattle.dq_assoc.specs.Negotiation.{agreement_of, context_ids}
-use Rattle.dq_assoc.specs.Table.{Input, Sent}
-use Rattle.dq_assoc.specs.Inputs.{leading_pdvs, after_leading_pdvs, closing_input, closing_inputs, inputs_past, inputs_after, misplaced_input, inputs_of_roles, inputs}
-use Rattle.dq_core.specs.Answers.{inputs_added}
 
 -- ---- octets, one by one
 
@@ -194,12 +188,7 @@ SmallRole role = Unit {0}
 
 role-small : (pdu : Pdu) → SmallPdu pdu → SmallRole (role_of pdu)
 role-small (PData pdvs) s = s
-role-small (request_pdu request) s = tt
-role-small ReleaseRq s = tt
-role-small (Abort source reason) s = tt
-role-small (accept_pdu accept) s = tt
-role-small (Reject result source reason) s = tt
-role-small ReleaseRp s = tt
+role-small other s = tt
 
 roles-small : (pdus : List Pdu) → AllByRecursion SmallPdu pdus → AllByRecursion SmallRole (map role_of pdus)
 roles-small [] s = tt
@@ -275,17 +264,12 @@ SmallInput (Sent message) = SmallMessage message
 SmallInput input = Unit {0}
 
 role-values : (roles : List Role) → AllByRecursion SmallRole roles → AllByRecursion SmallPdv (leading_pdvs roles)
-role-values [] s = tt
 role-values (Carries pdvs ∷ roles) s = each-joined SmallPdv pdvs (leading_pdvs roles) s.0 (role-values roles s.1)
-role-values (Asks request ∷ roles) s = tt
-role-values (Ends ending ∷ roles) s = tt
+role-values other s = tt
 
 closing-small : (role : Role) → SmallInput (closing_input role)
 closing-small (Ends ReleaseAsked) = tt
-closing-small (Ends (AbortSent source reason)) = tt
-closing-small (Ends OutOfPlace) = tt
-closing-small (Asks request) = tt
-closing-small (Carries pdvs) = tt
+closing-small other = tt
 
 closing-inputs : (roles : List Role) (fault : Option PduFault) → AllByRecursion SmallInput (closing_inputs roles fault)
 closing-inputs [] None = tt
@@ -309,10 +293,7 @@ after-small ids roles fault s =
 
 misplaced-small : (role : Role) → SmallInput (misplaced_input role)
 misplaced-small (Ends ReleaseAsked) = tt
-misplaced-small (Ends (AbortSent source reason)) = tt
-misplaced-small (Ends OutOfPlace) = tt
-misplaced-small (Asks request) = tt
-misplaced-small (Carries pdvs) = tt
+misplaced-small other = tt
 
 inputs-small : (roles : List Role) (fault : Option PduFault) → AllByRecursion SmallRole roles → AllByRecursion SmallInput (inputs_of_roles roles fault)
 inputs-small [] None s = tt

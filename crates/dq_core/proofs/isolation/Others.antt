@@ -4,20 +4,12 @@ use Rattle.std.specs.List.{AllByRecursion}
 use Rattle.std.proofs.lemmas.Bool.{false≢true}
 use Rattle.std.proofs.lemmas.Slice.Eq.{bytes_eq-Decides}
 use Rattle.std.specs.Str.{bytes_eq}
-use Rattle.dq_config.specs.declared.config.Institution.{Institution}
-use Rattle.dq_core.specs.declared.event.Event.{Event}
+use Rattle.dq_core.proofs.isolation.Vocabulary.{Institution, Event, Row, ConsoleOrder, Scheduling, Withdrawal, next_page, Connection, with_query, connection_in, owner, is_institution, World, EventEffect, turn, answer_by, owner_turn, piece_turn, end_turn, pull_turn, order_turn, octets_of_pieces, is_on}
 use Rattle.dq_core.specs.declared.event.Event.TheVariants as event
-use Rattle.dq_tables.specs.declared.row.Row.{Row}
 use Rattle.dq_config.specs.Routing.{institution_named}
 use Rattle.dq_tables.specs.Rows.{Edit, edited_all, Operation, by, of, after, after_all, IsRising}
-use Rattle.dq_core.specs.Services.{ConsoleOrder, Scheduling, Withdrawal}
-use Rattle.dq_core.specs.Pages.{next_page}
-use Rattle.dq_core.specs.Connections.{Connection, with_query, connection_in}
-use Rattle.dq_core.specs.Owners.{owner, is_institution}
-use Rattle.dq_core.specs.Shared.{World, EventEffect, turn, answer_by, owner_turn, piece_turn, end_turn, pull_turn, order_turn}
-use Rattle.dq_core.specs.Own.{octets_of_pieces, is_on}
 use Rattle.dq_core.proofs.isolation.Lists.{among, among-other_opened, without-other, with-other, piece-other, found-number}
-use Rattle.dq_core.proofs.isolation.Streams.{AddsInputs, owner-stays}
+use Rattle.dq_core.proofs.isolation.Streams.{AddsInputs, owner_stays}
 use Rattle.dq_core.proofs.isolation.Sound.{Owned, Sound, owned-piece}
 use Rattle.dq_core.proofs.isolation.Isolating.{Lenses, IsMine}
 
@@ -49,7 +41,7 @@ module _ (adds : AddsInputs) (institutions : List Institution) (name : List ℕ)
   other-owned c piece more m final None e =
       record { operations = tt; connections = piece-other mine c piece (answer_by None institutions world c piece) world.connections m }
   other-owned c piece more m final (Some i) e =
-      let ne : bytes_eq i.name name ≡ false = ap (is_institution name) (sym (owner-stays adds institutions (c.stream ++ piece) more i e)) ∙ final in
+      let ne : bytes_eq i.name name ≡ false = ap (is_institution name) (sym (owner_stays adds institutions (c.stream ++ piece) more i e)) ∙ final in
       let answer = answer_by (Some i) institutions world c piece in record {
         operations = all-by name i.name answer.changes (other-names i.name name ne);
         connections = piece-other mine c piece answer world.connections m;

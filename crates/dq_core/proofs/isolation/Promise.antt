@@ -3,16 +3,8 @@ use Rattle.std.proofs.Common.{◌≡◌, ℕ, zero, suc, Bool, true, false, if�
 use Rattle.std.specs.Prelude.{filter}
 use Rattle.std.proofs.lemmas.List.{take-append-drop, append-nil}
 use Rattle.std.proofs.lemmas.List.Elements.{filter-append}
-use Rattle.dq_config.specs.declared.config.Institution.{Institution}
-use Rattle.dq_core.specs.declared.event.Event.{Event}
-use Rattle.dq_core.specs.declared.event.Reply.{Reply}
-use Rattle.dq_tables.specs.declared.row.Row.{Row}
-use Rattle.dq_config.specs.Limits.{Limits, limits_of}
+use Rattle.dq_core.proofs.isolation.Vocabulary.{Institution, Event, Reply, Row, Limits, limits_of, World, turn, world_after_turn, replies_from, first_world, replies, world_after, operations_next, rows_within, AloneWorld, alone_turn, alone_after_turn, alone_replies_from, alone_world_from, alone_opening, alone_replies, alone_after, changes_next, records_within, owns, is_own_event, own, replies_at, own_among, Begins, Agree, IsPrefix}
 use Rattle.dq_tables.specs.Rows.{Record, Edit, of, after_all, edited_all, IsRising}
-use Rattle.dq_core.specs.Shared.{World, turn, world_after_turn, replies_from, first_world, replies, world_after, operations_next, rows_within}
-use Rattle.dq_core.specs.Alone.{AloneWorld, alone_turn, alone_after_turn, alone_replies_from, alone_world_from, alone_opening, alone_replies, alone_after, changes_next, records_within}
-use Rattle.dq_core.specs.Own.{owns, is_own_event, own, replies_at}
-use Rattle.dq_core.specs.Isolation.{own_among, Begins, Agree, IsPrefix}
 use Rattle.dq_core.proofs.isolation.Streams.{AddsInputs}
 use Rattle.dq_core.proofs.isolation.Isolating.{Lenses, Configured, alike}
 use Rattle.dq_core.proofs.isolation.Others.{other, rising-all, own-rows, other-rows, take-map, all-take}
@@ -74,9 +66,9 @@ module _ (adds : AddsInputs) (lenses : Lenses) (institutions : List Institution)
       (configured institutions i b.own_names b.listed) done rest None (first_world rows) (alone_opening (of i.name rows)) (rw e (begin b))
 
   -- the institution's own replies among the first, and all of them
-  pub isolated-among : (k : ℕ) → Begins institutions rows events i
+  pub isolated_among : (k : ℕ) → Begins institutions rows events i
       → replies_at (is_own_event institutions i.name events) events (take k (replies institutions rows events)) ≡ among_replies institutions rows events i k
-  isolated-among k b = replies-front institutions (is_own_event institutions i.name events) k (first_world rows) events
+  isolated_among k b = replies-front institutions (is_own_event institutions i.name events) k (first_world rows) events
       ∙ (after b (take k events) (drop k events) (take-append-drop k events)).replied
 
   pub isolated-replies : Begins institutions rows events i
@@ -85,9 +77,9 @@ module _ (adds : AddsInputs) (lenses : Lenses) (institutions : List Institution)
   isolated-replies b = (after b events [] (append-nil events)).replied
 
   -- its records within a history, and after it
-  pub isolated-within : (k j : ℕ) → Begins institutions rows events i
+  pub isolated_within : (k j : ℕ) → Begins institutions rows events i
       → of i.name (rows_within institutions rows events k j) ≡ records_within (limits_of i) (of i.name rows) (is_own_event institutions i.name events) events k j
-  isolated-within k j b =
+  isolated_within k j b =
       let mine = owns institutions i.name events in
       let then_are = after b (take k events) (drop k events) (take-append-drop k events) in
       next-rows adds lenses institutions i.name (limits_of i) mine (configured institutions i b.own_names b.listed) then_are.newest
@@ -100,9 +92,9 @@ module _ (adds : AddsInputs) (lenses : Lenses) (institutions : List Institution)
       rising-all lenses (take j (operations_next institutions (world_after institutions rows (take k events)) (drop k events)))
       (world_after institutions rows (take k events)).rows (after b (take k events) (drop k events) (take-append-drop k events)).are.rising
 
-  pub isolated-records : Begins institutions rows events i
+  pub isolated_records : Begins institutions rows events i
       → of i.name (world_after institutions rows events).rows ≡ (alone_after (limits_of i) (of i.name rows) (own institutions i.name events)).records
-  isolated-records b = sym (after b events [] (append-nil events)).are.beside.records
+  isolated_records b = sym (after b events [] (append-nil events)).are.beside.records
 
 -- the replies to some first events are the first replies
 alone-append : (limits : Limits) (world : AloneWorld) (done rest : List Event) → alone_replies_from limits world (done ++ rest)
@@ -111,9 +103,9 @@ alone-append limits world [] rest = refl
 alone-append limits world (e ∷ done) rest =
     let t = alone_turn limits world e in ap (λ (rs : List Reply). t.reply ∷ rs) (alone-append limits (alone_after_turn world t) done rest)
 
-pub own-front : (institutions : List Institution) (rows : List Row) (events : List Event) (i : Institution) (k : ℕ)
+pub own_front : (institutions : List Institution) (rows : List Row) (events : List Event) (i : Institution) (k : ℕ)
     → IsPrefix (among_replies institutions rows events i k) (alone_replies (limits_of i) (of i.name rows) (own institutions i.name events))
-own-front institutions rows events i k =
+own_front institutions rows events i k =
     let mine = is_own_event institutions i.name events in (
       alone_replies_from (limits_of i) (alone_after (limits_of i) (of i.name rows) (own_among institutions i.name events k)) (filter mine (drop k events)),
       sym (alone-append (limits_of i) (alone_opening (of i.name rows)) (filter mine (take k events)) (filter mine (drop k events)))
@@ -137,11 +129,11 @@ fronts (x ∷ xs) (y ∷ ys) a b z e f =
 -- two histories that agree
 module _ (adds : AddsInputs) (lenses : Lenses) (institutions others : List Institution) (rows other_rows : List Row) (events other_events : List Event)
     (i j : Institution) where
-  pub agreeing-replies : Begins institutions rows events i → Begins others other_rows other_events j
+  pub agreeing_replies : Begins institutions rows events i → Begins others other_rows other_events j
       → Agree institutions others rows other_rows events other_events i j
       → replies_at (is_own_event institutions i.name events) events (replies institutions rows events)
       ≡ replies_at (is_own_event others j.name other_events) other_events (replies others other_rows other_events)
-  agreeing-replies a b agree =
+  agreeing_replies a b agree =
       rw (
         isolated-replies adds lenses institutions rows events i a,
         isolated-replies adds lenses others other_rows other_events j b,
@@ -150,28 +142,28 @@ module _ (adds : AddsInputs) (lenses : Lenses) (institutions others : List Insti
         agree.limits,
       ) refl
 
-  pub agreeing-records : Begins institutions rows events i → Begins others other_rows other_events j
+  pub agreeing_records : Begins institutions rows events i → Begins others other_rows other_events j
       → Agree institutions others rows other_rows events other_events i j
       → of i.name (world_after institutions rows events).rows ≡ of j.name (world_after others other_rows other_events).rows
-  agreeing-records a b agree =
+  agreeing_records a b agree =
       rw (
-        isolated-records adds lenses institutions rows events i a,
-        isolated-records adds lenses others other_rows other_events j b,
+        isolated_records adds lenses institutions rows events i a,
+        isolated_records adds lenses others other_rows other_events j b,
         agree.own_events,
         agree.records,
         agree.limits,
       ) refl
 
-  pub agreeing-fronts : (k l : ℕ) → Begins institutions rows events i → Begins others other_rows other_events j
+  pub agreeing_fronts : (k l : ℕ) → Begins institutions rows events i → Begins others other_rows other_events j
       → Agree institutions others rows other_rows events other_events i j
       → let some = replies_at (is_own_event institutions i.name events) events (take k (replies institutions rows events)) in
       let more = replies_at (is_own_event others j.name other_events) other_events (take l (replies others other_rows other_events)) in
       IsPrefix some more ⊎ IsPrefix more some
-  agreeing-fronts k l a b agree =
-      let p = own-front institutions rows events i k in
-      let q = own-front others other_rows other_events j l in
-      let same = sym (isolated-replies adds lenses institutions rows events i a) ∙ agreeing-replies a b agree
+  agreeing_fronts k l a b agree =
+      let p = own_front institutions rows events i k in
+      let q = own_front others other_rows other_events j l in
+      let same = sym (isolated-replies adds lenses institutions rows events i a) ∙ agreeing_replies a b agree
       ∙ isolated-replies adds lenses others other_rows other_events j b in
-      rw (isolated-among adds lenses institutions rows events i k a, isolated-among adds lenses others other_rows other_events j l b)
+      rw (isolated_among adds lenses institutions rows events i k a, isolated_among adds lenses others other_rows other_events j l b)
       (fronts (among_replies institutions rows events i k) (among_replies others other_rows other_events j l) p.0 q.0
       (alone_replies (limits_of j) (of j.name other_rows) (own others j.name other_events)) (p.1 ∙ same) q.1)

@@ -3,25 +3,12 @@ use Rattle.std.proofs.Common.{arith, ◌≡◌, ℕ, ◌<◌, ◌==◌, nat_lt, 
 use Rattle.std.specs.Prelude.{filter, option_map, is_some}
 use Rattle.std.proofs.lemmas.Bool.{cases_order}
 use Rattle.std.proofs.lemmas.Bool.Decides.{nat_tests}
-use Rattle.dq_assoc.specs.Inputs.{inputs}
-use Rattle.dq_config.specs.declared.config.Institution.{Institution}
-use Rattle.dq_config.specs.Limits.{Limits, limits_of}
+use Rattle.dq_core.proofs.isolation.Vocabulary.{inputs, Institution, Limits, limits_of, Row, Event, Reply, next_page, Answer, request_in, after_piece, Connection, new_connection, with_piece, with_query, connection_in, without, with_connection, owner, is_institution, World, EventEffect, quiet_turn, answer_by, owner_turn, piece_turn, end_turn, pull_turn, ordered_turn, order_turn, turn, world_after_turn, replies_from, world_from, first_world, replies, world_after, AloneWorld, AloneTurn, alone_quiet, alone_answer, alone_piece, alone_end, alone_pull, alone_order, alone_turn, alone_after_turn, alone_replies_from, alone_world_from, alone_opening, alone_replies, alone_after, octets_of_pieces, stream_of, owns, is_own_event, own, replies_at, is_above, rises_from, is_well_formed_history}
 use Rattle.dq_config.specs.Routing.{institution_named}
-use Rattle.dq_tables.specs.declared.row.Row.{Row}
 use Rattle.dq_tables.specs.Rows.{Record, of}
-use Rattle.dq_core.specs.declared.event.Event.{Event}
 use Rattle.dq_core.specs.declared.event.Event.TheVariants as event
-use Rattle.dq_core.specs.declared.event.Reply.{Reply}
 use Rattle.dq_core.specs.declared.event.Reply.TheVariants as reply
 use Rattle.dq_core.specs.Services.{ConsoleOrder, Scheduling, Withdrawal, Ordered, console_outcome, order_reply}
-use Rattle.dq_core.specs.Pages.{next_page}
-use Rattle.dq_core.specs.Answers.{Answer, request_in, after_piece}
-use Rattle.dq_core.specs.Connections.{Connection, new_connection, with_piece, with_query, connection_in, without, with_connection}
-use Rattle.dq_core.specs.Owners.{owner, is_institution}
-use Rattle.dq_core.specs.Shared.{World, EventEffect, quiet_turn, answer_by, owner_turn, piece_turn, end_turn, pull_turn, ordered_turn, order_turn, turn, world_after_turn, replies_from, world_from, first_world, replies, world_after}
-use Rattle.dq_core.specs.Alone.{AloneWorld, AloneTurn, alone_quiet, alone_answer, alone_piece, alone_end, alone_pull, alone_order, alone_turn, alone_after_turn, alone_replies_from, alone_world_from, alone_opening, alone_replies, alone_after}
-use Rattle.dq_core.specs.Own.{octets_of_pieces, stream_of, owns, is_own_event, own, replies_at}
-use Rattle.dq_core.specs.Histories.{is_above, rises_from, is_well_formed_history}
 use Rattle.dq_core.specs.Renumbering.{KeepsOrder, with_other_number, renumbered_reply}
 
 -- a choice between images is the image of the choice
@@ -161,13 +148,13 @@ module _ (another : ℕ → ℕ) (keeps : KeepsOrder another) where
         ap (λ (t : EventEffect). world_from institutions (world_after_turn (world_anew world) t) (map (with_other_number another) events)) (turn-alike world e)
         ∙ world-alike (world_after_turn world (turn institutions world e)) events
 
-    pub replies-anew : (rows : List Row) (events : List Event)
+    pub replies_anew : (rows : List Row) (events : List Event)
         → replies institutions rows (map (with_other_number another) events) ≡ map (renumbered_reply another) (replies institutions rows events)
-    replies-anew rows events = replies-alike (first_world rows) events
+    replies_anew rows events = replies-alike (first_world rows) events
 
-    pub rows-anew : (rows : List Row) (events : List Event)
+    pub rows_anew : (rows : List Row) (events : List Event)
         → (world_after institutions rows (map (with_other_number another) events)).rows ≡ (world_after institutions rows events).rows
-    rows-anew rows events = ap (λ (w : World). w.rows) (world-alike (first_world rows) events)
+    rows_anew rows events = ap (λ (w : World). w.rows) (world-alike (first_world rows) events)
 
   -- the server of one institution alone
   abbrev alone_anew : AloneWorld → AloneWorld
@@ -223,9 +210,9 @@ module _ (another : ℕ → ℕ) (keeps : KeepsOrder another) where
         ap (λ (t : AloneTurn). alone_world_from limits (alone_after_turn (alone_anew world) t) (map (with_other_number another) events)) (alone-alike world e)
         ∙ alone-world_alike (alone_after_turn world (alone_turn limits world e)) events
 
-    pub alone-replies_anew : (records : List Record) (events : List Event)
+    pub alone_replies_anew : (records : List Record) (events : List Event)
         → alone_replies limits records (map (with_other_number another) events) ≡ map (renumbered_reply another) (alone_replies limits records events)
-    alone-replies_anew records events = alone-replies_alike (alone_opening records) events
+    alone_replies_anew records events = alone-replies_alike (alone_opening records) events
 
     pub alone-records_anew : (records : List Record) (events : List Event)
         → (alone_after limits records (map (with_other_number another) events)).records ≡ (alone_after limits records events).records
@@ -234,21 +221,14 @@ module _ (another : ℕ → ℕ) (keeps : KeepsOrder another) where
   -- streams, and whose they are
   pieces-anew : (n : ℕ) (events : List Event) → octets_of_pieces (another n) (map (with_other_number another) events) ≡ octets_of_pieces n events
   pieces-anew n [] = refl
-  pieces-anew n (event.Open m ∷ events) = pieces-anew n events
   pieces-anew n (event.Piece m piece ∷ events) = rw (equal n m, pieces-anew n events) refl
   pieces-anew n (event.End m ∷ events) = rw (equal n m, pieces-anew n events) refl
-  pieces-anew n (event.Pull m ∷ events) = pieces-anew n events
-  pieces-anew n (event.Schedule inst octets ∷ events) = pieces-anew n events
-  pieces-anew n (event.Withdraw inst id ∷ events) = pieces-anew n events
+  pieces-anew n (other ∷ events) = pieces-anew n events
 
   stream-anew : (n : ℕ) (events : List Event) → stream_of (another n) (map (with_other_number another) events) ≡ stream_of n events
   stream-anew n [] = refl
   stream-anew n (event.Open m ∷ events) = rw (equal n m, pieces-anew n events, stream-anew n events) refl
-  stream-anew n (event.Piece m piece ∷ events) = stream-anew n events
-  stream-anew n (event.End m ∷ events) = stream-anew n events
-  stream-anew n (event.Pull m ∷ events) = stream-anew n events
-  stream-anew n (event.Schedule inst octets ∷ events) = stream-anew n events
-  stream-anew n (event.Withdraw inst id ∷ events) = stream-anew n events
+  stream-anew n (other ∷ events) = stream-anew n events
 
   module _ (institutions : List Institution) (name : List ℕ) (events : List Event) where
     owned-anew : (n : ℕ) → owns institutions name (map (with_other_number another) events) (another n) ≡ owns institutions name events n
@@ -259,17 +239,16 @@ module _ (another : ℕ → ℕ) (keeps : KeepsOrder another) where
     is-own_anew (event.Piece n piece) = owned-anew n
     is-own_anew (event.End n) = owned-anew n
     is-own_anew (event.Pull n) = owned-anew n
-    is-own_anew (event.Schedule inst octets) = refl
-    is-own_anew (event.Withdraw inst id) = refl
+    is-own_anew other = refl
 
-    pub own-anew : own institutions name (map (with_other_number another) events) ≡ map (with_other_number another) (own institutions name events)
-    own-anew =
+    pub own_anew : own institutions name (map (with_other_number another) events) ≡ map (with_other_number another) (own institutions name events)
+    own_anew =
         filter-map (with_other_number another) (is_own_event institutions name events) (is_own_event institutions name (map (with_other_number another) events)) is-own_anew events
 
-    pub at-anew : (given : List Reply)
+    pub at_anew : (given : List Reply)
         → replies_at (is_own_event institutions name (map (with_other_number another) events)) (map (with_other_number another) events) (map (renumbered_reply another) given)
         ≡ map (renumbered_reply another) (replies_at (is_own_event institutions name events) events given)
-    at-anew given =
+    at_anew given =
         at-map (with_other_number another) (renumbered_reply another) (is_own_event institutions name events)
         (is_own_event institutions name (map (with_other_number another) events)) is-own_anew events given
 
@@ -281,11 +260,7 @@ module _ (another : ℕ → ℕ) (keeps : KeepsOrder another) where
   rises-anew : (newest : Option ℕ) (events : List Event) → rises_from (option_map another newest) (map (with_other_number another) events) ≡ rises_from newest events
   rises-anew newest [] = refl
   rises-anew newest (event.Open n ∷ events) = rw (above-anew newest n, rises-anew (Some n) events) refl
-  rises-anew newest (event.Piece n piece ∷ events) = rises-anew newest events
-  rises-anew newest (event.End n ∷ events) = rises-anew newest events
-  rises-anew newest (event.Pull n ∷ events) = rises-anew newest events
-  rises-anew newest (event.Schedule inst octets ∷ events) = rises-anew newest events
-  rises-anew newest (event.Withdraw inst id ∷ events) = rises-anew newest events
+  rises-anew newest (other ∷ events) = rises-anew newest events
 
-  pub formed-anew : (events : List Event) → is_well_formed_history (map (with_other_number another) events) ≡ is_well_formed_history events
-  formed-anew events = rises-anew None events
+  pub formed_anew : (events : List Event) → is_well_formed_history (map (with_other_number another) events) ≡ is_well_formed_history events
+  formed_anew events = rises-anew None events

@@ -1,12 +1,8 @@
 -- What a request leads to, by the verdict.
 use Rattle.std.proofs.Common.{◌≡◌, true, false, arith}
-use Rattle.dq_pdu.specs.declared.pdu.Request.{Request}
+use Rattle.dq_core.proofs.isolation.Vocabulary.{Request, Verdict, Requested, line, is_closed, is_sound_request}
 use Rattle.dq_assoc.specs.declared.association.State.TheVariants.{Waiting, Open}
-use Rattle.dq_assoc.specs.declared.association.Verdict.{Verdict}
 use Rattle.dq_assoc.specs.declared.association.Verdict.TheVariants.{Accept, Nowhere, Busy}
-use Rattle.dq_assoc.specs.Table.{Requested, line}
-use Rattle.dq_assoc.specs.After.{is_closed}
-use Rattle.dq_core.specs.Owners.{is_sound_request}
 
 pub nowhere-closes : (request : Request) → is_closed (line Waiting Nowhere (Requested request)).next ≡ true
 nowhere-closes request = grind arith

@@ -3,9 +3,8 @@ use Rattle.std.proofs.Common.{◌≡◌, ℕ, zero, suc, ◌+◌, ◌<◌, ◌&&
 use Rattle.std.specs.Prelude.{IsTrue}
 use Rattle.std.specs.List.Sorted.{IsStrictlyIncreasing}
 use Rattle.std.proofs.lemmas.Bool.Decides.{nat_tests}
-use Rattle.dq_core.specs.declared.event.Event.{Event}
+use Rattle.dq_core.proofs.isolation.Vocabulary.{Event, is_above, rises_from, is_well_formed_history, opened_numbers}
 use Rattle.dq_core.specs.declared.event.Event.TheVariants as event
-use Rattle.dq_core.specs.Histories.{is_above, rises_from, is_well_formed_history, opened_numbers}
 
 abbrev rises : Option ℕ → List ℕ → Bool
 rises newest [] = true

@@ -1,24 +1,12 @@
 -- What the inputs of one piece are answered on an association is what its conversation says.
 use Rattle.std.proofs.Common.{◌≡◌, ℕ, Bool, true, false, if◌then◌else◌, List, [], ◌∷◌, ◌++◌, map, Option, Some, None, refl, sym, ap, ◌∙◌, subst, append_assoc}
 use Rattle.std.proofs.lemmas.List.{map-append}
-use Rattle.dq_pdu.specs.declared.pdu.Request.{Request}
-use Rattle.dq_assoc.specs.declared.agreement.Agreement.{Agreement}
+use Rattle.dq_core.proofs.isolation.Vocabulary.{Request, Agreement, Verdict, agreement_of, Input, Requested, Sent, Line, line, answer_octets, is_closed, Institution, limits_of, Progress, Answer, input_answers, line_answer, then_answer, verdict_at, live_of, Output, Octet, Close, World, Arrival, InputAt, NoMessage, sequel, input_arrivals, response_octets_of, exchange, conversation}
 use Rattle.dq_assoc.specs.declared.association.State.TheVariants.{Waiting, Open}
-use Rattle.dq_assoc.specs.declared.association.Verdict.{Verdict}
 use Rattle.dq_assoc.specs.declared.association.Verdict.TheVariants.{Accept}
-use Rattle.dq_assoc.specs.Negotiation.{agreement_of}
-use Rattle.dq_assoc.specs.Table.{Input, Requested, Sent, Line, line, answer_octets}
-use Rattle.dq_assoc.specs.After.{is_closed}
-use Rattle.dq_config.specs.declared.config.Institution.{Institution}
-use Rattle.dq_config.specs.Limits.{limits_of}
 use Rattle.dq_tables.specs.Rows.{Record, records_after_edits, of, by, after}
 use Rattle.dq_core.specs.Services.{service_of_message}
 use Rattle.dq_core.specs.Pages.{OpenQuery, reaction}
-use Rattle.dq_core.specs.Answers.{Progress, Answer, input_answers, line_answer, then_answer, verdict_at}
-use Rattle.dq_core.specs.Owners.{live_of}
-use Rattle.dq_core.specs.Own.{Output, Octet, Close}
-use Rattle.dq_core.specs.Shared.{World}
-use Rattle.dq_core.specs.Conversations.{Arrival, InputAt, NoMessage, sequel, input_arrivals, response_octets_of, exchange, conversation}
 use Rattle.dq_core.proofs.isolation.Keeping.{Edits}
 use Rattle.dq_core.proofs.isolation.Sequels.{unsent, HasMore, nothing-unsent, message-sent, message-more}
 
@@ -41,11 +29,10 @@ from_wait i verdict records xs = input_answers (limits_of i) verdict (record { a
 -- what is open after inputs has pending responses left
 pub answers-more : (i : Institution) (a : Agreement) (verdict : Verdict) (records : List Record) (q : Option OpenQuery) (xs : List Input) → HasMore q
     → HasMore (from_open i a verdict records q xs).next.query
-answers-more i a verdict records q [] more = more
 answers-more i a verdict records q (Sent m ∷ xs) more =
     let r = reaction q (limits_of i) records a m in
     answers-more i a verdict (records_after_edits r.edits records) r.query xs (message-more (limits_of i) records a m q more)
-answers-more i a verdict records q (x ∷ xs) more = more
+answers-more i a verdict records q other more = more
 
 -- what inputs bring is answered, and then what comes later
 abbrev IsSaid : Institution → Agreement → Verdict → World → List Record → Option OpenQuery → List Input → List Arrival → Type 0

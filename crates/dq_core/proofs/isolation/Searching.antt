@@ -2,20 +2,10 @@
 use Rattle.std.proofs.Common.{◌≡◌, ◌==◌, ℕ, Bool, true, List, [], Ok, refl, ap}
 use Rattle.std.specs.Str.{bytes_eq}
 use Rattle.std.proofs.lemmas.Slice.Eq.{bytes_eq-Decides}
-use Rattle.dq_dataset.specs.Tree.{ElementList}
-use Rattle.dq_dimse.specs.CommandFields.{c_find}
-use Rattle.dq_dimse.specs.Received.{Message}
-use Rattle.dq_dimse.specs.Statuses.{success}
-use Rattle.dq_assoc.specs.declared.agreement.AcceptedContext.{AcceptedContext}
-use Rattle.dq_assoc.specs.declared.agreement.Agreement.{Agreement}
-use Rattle.dq_assoc.specs.declared.classes.Service.TheVariants.{StudyRootFind, WorklistFind}
-use Rattle.dq_assoc.specs.Classes.{service_of, uid_of}
-use Rattle.dq_config.specs.Limits.{Limits}
+use Rattle.dq_core.proofs.isolation.Vocabulary.{ElementList, c_find, Message, success, AcceptedContext, Agreement, StudyRootFind, WorklistFind, service_of, uid_of, Limits, Record, message_outcome}
 use Rattle.dq_find.specs.declared.query.Query.{Query}
 use Rattle.dq_find.specs.Queries as study
 use Rattle.dq_worklist.specs.Queries as worklist
-use Rattle.dq_tables.specs.Rows.{Record}
-use Rattle.dq_core.specs.Services.{message_outcome}
 
 pub study_search : (agreement : Agreement) (context : AcceptedContext) (limits : Limits)
     (message : Message) (records : List Record) (query : Query)

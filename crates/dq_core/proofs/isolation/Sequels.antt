@@ -5,18 +5,9 @@ use Rattle.std.proofs.lemmas.Bool.Decides.{nat_tests}
 use Rattle.std.proofs.lemmas.Grind.{flat_map-append}
 use Rattle.std.proofs.lemmas.List.{append-nil, take-append-drop, length-drop}
 use Rattle.std.proofs.Math.Seq.{take-add}
-use Rattle.dq_dimse.specs.CommandFields.{c_cancel}
-use Rattle.dq_dimse.specs.Received.{Message}
-use Rattle.dq_assoc.specs.declared.agreement.AcceptedContext.{AcceptedContext}
-use Rattle.dq_assoc.specs.declared.agreement.Agreement.{Agreement}
-use Rattle.dq_assoc.specs.Negotiation.{context_of}
-use Rattle.dq_assoc.specs.Table.{Sent}
-use Rattle.dq_config.specs.Limits.{Limits}
-use Rattle.dq_tables.specs.Rows.{Record}
+use Rattle.dq_core.proofs.isolation.Vocabulary.{c_cancel, Message, AcceptedContext, Agreement, context_of, Sent, Limits, Record, World, Arrival, InputAt, PageRequest, Next, Cancel, AnotherMessage, NoMessage, sequel, all_responses, responses_in_pages, responses_sent, response_octets_of}
 use Rattle.dq_core.specs.Services.{Response, Responses, responses, message_outcome, no_response, service_of_message, served_by}
 use Rattle.dq_core.specs.Pages.{OpenQuery, page_length, answered_message_id, response_octets, responses_octets, rest, page, next_page, query_by, reaction, reaction_while, cancel_reaction, first_reaction}
-use Rattle.dq_core.specs.Shared.{World}
-use Rattle.dq_core.specs.Conversations.{Arrival, InputAt, PageRequest, Next, Cancel, AnotherMessage, NoMessage, sequel, all_responses, responses_in_pages, responses_sent, response_octets_of}
 
 -- ---- the responses of a page, and those after it
 
@@ -68,8 +59,7 @@ split r p NoMessage = pages-split r p [] (nat_le (length r.pending) (suc p * pag
 -- a page that holds all of them
 whole-in : (r : Responses) (p : ℕ) (n : Next) → nat_le (length r.pending) page_length ≡ true → responses_sent (suc p) n r ≡ all_responses r
 whole-in r p AnotherMessage h = refl
-whole-in r p Cancel h = rw (le-more (length r.pending) p h) refl
-whole-in r p NoMessage h = rw (le-more (length r.pending) p h) refl
+whole-in r p other h = rw (le-more (length r.pending) p h) refl
 
 -- what is sent after a page
 abbrev sent_after : Option OpenQuery → ℕ × Next → List ℕ

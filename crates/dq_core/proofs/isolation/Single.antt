@@ -9,54 +9,42 @@ use Rattle.std.proofs.lemmas.Bool.{false≢true}
 use Rattle.std.proofs.lemmas.Bool.Decides.{nat_tests}
 use Rattle.std.proofs.lemmas.Slice.Eq.{bytes_eq-Decides}
 use Rattle.std.proofs.Math.Seq.{take-append_seam, drop-append_seam}
-use Rattle.dq_pdu.specs.declared.pdu.Request.{Request}
-use Rattle.dq_assoc.specs.Inputs.{inputs}
-use Rattle.dq_config.specs.declared.config.Institution.{Institution}
-use Rattle.dq_config.specs.Limits.{limits_of}
+use Rattle.dq_core.proofs.isolation.Vocabulary.{Request, inputs, Institution, limits_of, Row, Event, Reply, request_in, is_sound_request, owner_by, owner, is_above, rises_from, World, turn, world_after_turn, replies_from, world_from, first_world, replies, world_after, rows_within, alone_turn, alone_replies, alone_after, changes_next, records_within, octets_of_pieces, stream_of, owns, is_on, is_own_event, own, replies_at, own_among, replies_alone, world_alone, own_replies, own_operations, own_rows_within, Begins, IsPrefix}
 use Rattle.dq_config.specs.Routing.{institution_routed}
-use Rattle.dq_tables.specs.declared.row.Row.{Row}
 use Rattle.dq_tables.specs.Rows.{of, rows_named, record_of, IsRising}
-use Rattle.dq_core.specs.declared.event.Event.{Event}
 use Rattle.dq_core.specs.declared.event.Event.TheVariants as event
-use Rattle.dq_core.specs.declared.event.Reply.{Reply}
-use Rattle.dq_core.specs.Answers.{request_in}
-use Rattle.dq_core.specs.Owners.{is_sound_request, owner_by, owner, is_institution}
-use Rattle.dq_core.specs.Histories.{is_above, rises_from}
-use Rattle.dq_core.specs.Shared.{World, turn, world_after_turn, replies_from, world_from, first_world, replies, world_after, rows_within}
-use Rattle.dq_core.specs.Alone.{alone_turn, alone_replies, alone_after, changes_next, records_within}
-use Rattle.dq_core.specs.Own.{octets_of_pieces, stream_of, owns, is_on, is_own_event, own, replies_at}
-use Rattle.dq_core.specs.Isolation.{own_among, replies_alone, world_alone, own_replies, own_operations, own_rows_within, Begins, IsPrefix}
 use Rattle.dq_core.proofs.isolation.Lists.{at-number}
 use Rattle.dq_core.proofs.isolation.Streams.{AddsInputs}
 use Rattle.dq_core.proofs.isolation.Isolating.{Lenses, is_of-some}
 use Rattle.dq_core.proofs.isolation.Named.{in-at, contains-in, owned-contained}
 use Rattle.dq_core.proofs.isolation.Rising.{both-true}
-use Rattle.dq_core.proofs.isolation.Promise.{among_replies, replies-front, take-nil, isolated-replies, isolated-records, isolated-among, isolated-within}
+use Rattle.dq_core.proofs.isolation.Promise.{among_replies, replies-front, take-nil, isolated-replies, isolated_records, isolated_among, isolated_within}
 
 -- ---- filters
 
+-- what is said of a list with an item and without it is said where it is left out or not
+kept-or-not : {X : Type 0} (P : List X → Type 0) (x : X) (xs : List X) (b : Bool) → (b ≡ true → P (x ∷ xs)) → (b ≡ false → P xs)
+    → P (if b then x ∷ xs else xs)
+kept-or-not P x xs true kept not_kept = kept refl
+kept-or-not P x xs false kept not_kept = not_kept refl
+
 filter-kept : {X : Type 0} (p q : X → Bool) → ((x : X) → q x ≡ true → p x ≡ true) → (xs : List X) → filter p (filter q xs) ≡ filter q xs
 filter-kept p q within [] = refl
-filter-kept p q within (x ∷ xs) = by (q x) refl (filter-kept p q within xs) where
-  by : (b : Bool) → q x ≡ b → filter p (filter q xs) ≡ filter q xs
-      → filter p (if b then x ∷ filter q xs else filter q xs) ≡ (if b then x ∷ filter q xs else filter q xs)
-  by true h later = rw (within x h, later) refl
-  by false h later = later
+filter-kept p q within (x ∷ xs) =
+    let later = filter-kept p q within xs in
+    kept-or-not (λ ys. filter p ys ≡ ys) x (filter q xs) (q x) (λ h. rw (within x h, later) refl) (λ h. later)
 
 each-filtered : {X : Type 0} (P : X → Type 0) (p : X → Bool) (xs : List X) → AllByRecursion P xs → AllByRecursion P (filter p xs)
 each-filtered P p [] all = tt
-each-filtered P p (x ∷ xs) all = by (p x) (each-filtered P p xs all.1) where
-  by : (b : Bool) → AllByRecursion P (filter p xs) → AllByRecursion P (if b then x ∷ filter p xs else filter p xs)
-  by true later = (all.0, later)
-  by false later = later
+each-filtered P p (x ∷ xs) all =
+    let later = each-filtered P p xs all.1 in kept-or-not (AllByRecursion P) x (filter p xs) (p x) (λ h. (all.0, later)) (λ h. later)
 
 rising-filtered : (p : Row → Bool) (rows : List Row) → IsRising rows → IsRising (filter p rows)
 unfolding IsRising
 rising-filtered p [] r = tt
-rising-filtered p (row ∷ rows) r = by (p row) (rising-filtered p rows r.1) where
-  by : (b : Bool) → IsRising (filter p rows) → IsRising (if b then row ∷ filter p rows else filter p rows)
-  by true later = (each-filtered _ p rows r.0, later)
-  by false later = later
+rising-filtered p (row ∷ rows) r =
+    let later = rising-filtered p rows r.1 in
+    kept-or-not IsRising row (filter p rows) (p row) (λ h. (each-filtered _ p rows r.0, later)) (λ h. later)
 
 -- what is above a number that is above the newest is above that
 above-past : (newest : Option ℕ) (n : ℕ) → is_above newest n ≡ true → (m : ℕ) → nat_lt n m ≡ true → is_above newest m ≡ true
@@ -69,36 +57,12 @@ rises-filtered : (mine : Event → Bool) (newest lower : Option ℕ) → ((n : �
 rises-filtered mine newest lower weaker [] h = refl
 rises-filtered mine newest lower weaker (event.Open n ∷ events) h =
     let both : (is_above newest n ≡ true) × (rises_from (Some n) events ≡ true) = both-true (is_above newest n) (rises_from (Some n) events) h in
-    by (mine (event.Open n)) both.0 (rises-filtered mine (Some n) (Some n) (λ m a. a) events both.1)
-    (rises-filtered mine (Some n) lower (λ m a. weaker m (above-past newest n both.0 m a)) events both.1) where
-      by : (b : Bool) → is_above newest n ≡ true → rises_from (Some n) (filter mine events) ≡ true → rises_from lower (filter mine events) ≡ true
-          → rises_from lower (if b then event.Open n ∷ filter mine events else filter mine events) ≡ true
-      by true above after without = rw (weaker n above) after
-      by false above after without = without
-rises-filtered mine newest lower weaker (event.Piece n piece ∷ events) h = by (mine (event.Piece n piece)) (rises-filtered mine newest lower weaker events h) where
-  by : (b : Bool) → rises_from lower (filter mine events) ≡ true → rises_from lower (if b then event.Piece n piece ∷ filter mine events else filter mine events) ≡ true
-  by true later = later
-  by false later = later
-rises-filtered mine newest lower weaker (event.End n ∷ events) h = by (mine (event.End n)) (rises-filtered mine newest lower weaker events h) where
-  by : (b : Bool) → rises_from lower (filter mine events) ≡ true → rises_from lower (if b then event.End n ∷ filter mine events else filter mine events) ≡ true
-  by true later = later
-  by false later = later
-rises-filtered mine newest lower weaker (event.Pull n ∷ events) h = by (mine (event.Pull n)) (rises-filtered mine newest lower weaker events h) where
-  by : (b : Bool) → rises_from lower (filter mine events) ≡ true → rises_from lower (if b then event.Pull n ∷ filter mine events else filter mine events) ≡ true
-  by true later = later
-  by false later = later
-rises-filtered mine newest lower weaker (event.Schedule inst octets ∷ events) h =
-    by (mine (event.Schedule inst octets)) (rises-filtered mine newest lower weaker events h) where
-      by : (b : Bool) → rises_from lower (filter mine events) ≡ true
-          → rises_from lower (if b then event.Schedule inst octets ∷ filter mine events else filter mine events) ≡ true
-      by true later = later
-      by false later = later
-rises-filtered mine newest lower weaker (event.Withdraw inst id ∷ events) h =
-    by (mine (event.Withdraw inst id)) (rises-filtered mine newest lower weaker events h) where
-      by : (b : Bool) → rises_from lower (filter mine events) ≡ true
-          → rises_from lower (if b then event.Withdraw inst id ∷ filter mine events else filter mine events) ≡ true
-      by true later = later
-      by false later = later
+    kept-or-not (λ es. rises_from lower es ≡ true) (event.Open n) (filter mine events) (mine (event.Open n))
+    (λ is. rw (weaker n both.0) (rises-filtered mine (Some n) (Some n) (λ m a. a) events both.1))
+    (λ is. rises-filtered mine (Some n) lower (λ m a. weaker m (above-past newest n both.0 m a)) events both.1)
+rises-filtered mine newest lower weaker (e ∷ events) h =
+    let later = rises-filtered mine newest lower weaker events h in
+    kept-or-not (λ es. rises_from lower es ≡ true) e (filter mine events) (mine e) (λ is. later) (λ is. later)
 
 -- ---- the streams of connections that pass a test, among the events on such
 
@@ -114,59 +78,24 @@ module _ (numbers : ℕ → Bool) (names : List ℕ → Bool) (n : ℕ) (mine : 
 
   pieces-kept : (events : List Event) → octets_of_pieces n (some events) ≡ octets_of_pieces n events
   pieces-kept [] = refl
-  pieces-kept (event.Open m ∷ events) = by (numbers m) (pieces-kept events) where
-    by : (b : Bool) → octets_of_pieces n (some events) ≡ octets_of_pieces n events → octets_of_pieces n (if b then event.Open m ∷ some events else some events) ≡ octets_of_pieces n events
-    by true later = later
-    by false later = later
-  pieces-kept (event.Piece m piece ∷ events) = by (numbers m) refl (pieces-kept events) where
-    by : (b : Bool) → numbers m ≡ b → octets_of_pieces n (some events) ≡ octets_of_pieces n events → octets_of_pieces n (if b then event.Piece m piece ∷ some events else some events)
-        ≡ (if n == m then piece ++ octets_of_pieces n events else octets_of_pieces n events)
-    by true h later = ap (λ rest. if n == m then piece ++ rest else rest) later
-    by false h later = rw (not-it m h) later
-  pieces-kept (event.End m ∷ events) = by (numbers m) refl (pieces-kept events) where
-    by : (b : Bool) → numbers m ≡ b → octets_of_pieces n (some events) ≡ octets_of_pieces n events → octets_of_pieces n (if b then event.End m ∷ some events else some events) ≡ (if n == m then [] else octets_of_pieces n events)
-    by true h later = ap (λ rest. if n == m then [] else rest) later
-    by false h later = rw (not-it m h) later
-  pieces-kept (event.Pull m ∷ events) = by (numbers m) (pieces-kept events) where
-    by : (b : Bool) → octets_of_pieces n (some events) ≡ octets_of_pieces n events → octets_of_pieces n (if b then event.Pull m ∷ some events else some events) ≡ octets_of_pieces n events
-    by true later = later
-    by false later = later
-  pieces-kept (event.Schedule inst octets ∷ events) = by (names inst) (pieces-kept events) where
-    by : (b : Bool) → octets_of_pieces n (some events) ≡ octets_of_pieces n events → octets_of_pieces n (if b then event.Schedule inst octets ∷ some events else some events) ≡ octets_of_pieces n events
-    by true later = later
-    by false later = later
-  pieces-kept (event.Withdraw inst id ∷ events) = by (names inst) (pieces-kept events) where
-    by : (b : Bool) → octets_of_pieces n (some events) ≡ octets_of_pieces n events → octets_of_pieces n (if b then event.Withdraw inst id ∷ some events else some events) ≡ octets_of_pieces n events
-    by true later = later
-    by false later = later
+  pieces-kept (event.Piece m piece ∷ events) =
+      kept-or-not (λ es. octets_of_pieces n es ≡ octets_of_pieces n (event.Piece m piece ∷ events)) (event.Piece m piece) (some events) (numbers m)
+      (λ h. ap (λ rest. if n == m then piece ++ rest else rest) (pieces-kept events)) (λ h. rw (not-it m h) (pieces-kept events))
+  pieces-kept (event.End m ∷ events) =
+      kept-or-not (λ es. octets_of_pieces n es ≡ octets_of_pieces n (event.End m ∷ events)) (event.End m) (some events) (numbers m)
+      (λ h. ap (λ rest. if n == m then [] else rest) (pieces-kept events)) (λ h. rw (not-it m h) (pieces-kept events))
+  pieces-kept (e ∷ events) =
+      let later = pieces-kept events in
+      kept-or-not (λ es. octets_of_pieces n es ≡ octets_of_pieces n events) e (some events) (is_on numbers names e) (λ h. later) (λ h. later)
 
   stream-kept : (events : List Event) → stream_of n (some events) ≡ stream_of n events
   stream-kept [] = refl
-  stream-kept (event.Open m ∷ events) = by (numbers m) refl (stream-kept events) where
-    by : (b : Bool) → numbers m ≡ b → stream_of n (some events) ≡ stream_of n events → stream_of n (if b then event.Open m ∷ some events else some events)
-        ≡ (if n == m then octets_of_pieces n events else stream_of n events)
-    by true h later = rw (pieces-kept events, later) refl
-    by false h later = rw (not-it m h) later
-  stream-kept (event.Piece m piece ∷ events) = by (numbers m) (stream-kept events) where
-    by : (b : Bool) → stream_of n (some events) ≡ stream_of n events → stream_of n (if b then event.Piece m piece ∷ some events else some events) ≡ stream_of n events
-    by true later = later
-    by false later = later
-  stream-kept (event.End m ∷ events) = by (numbers m) (stream-kept events) where
-    by : (b : Bool) → stream_of n (some events) ≡ stream_of n events → stream_of n (if b then event.End m ∷ some events else some events) ≡ stream_of n events
-    by true later = later
-    by false later = later
-  stream-kept (event.Pull m ∷ events) = by (numbers m) (stream-kept events) where
-    by : (b : Bool) → stream_of n (some events) ≡ stream_of n events → stream_of n (if b then event.Pull m ∷ some events else some events) ≡ stream_of n events
-    by true later = later
-    by false later = later
-  stream-kept (event.Schedule inst octets ∷ events) = by (names inst) (stream-kept events) where
-    by : (b : Bool) → stream_of n (some events) ≡ stream_of n events → stream_of n (if b then event.Schedule inst octets ∷ some events else some events) ≡ stream_of n events
-    by true later = later
-    by false later = later
-  stream-kept (event.Withdraw inst id ∷ events) = by (names inst) (stream-kept events) where
-    by : (b : Bool) → stream_of n (some events) ≡ stream_of n events → stream_of n (if b then event.Withdraw inst id ∷ some events else some events) ≡ stream_of n events
-    by true later = later
-    by false later = later
+  stream-kept (event.Open m ∷ events) =
+      kept-or-not (λ es. stream_of n es ≡ stream_of n (event.Open m ∷ events)) (event.Open m) (some events) (numbers m)
+      (λ h. rw (pieces-kept events, stream-kept events) refl) (λ h. rw (not-it m h) (stream-kept events))
+  stream-kept (e ∷ events) =
+      let later = stream-kept events in
+      kept-or-not (λ es. stream_of n es ≡ stream_of n events) e (some events) (is_on numbers names e) (λ h. later) (λ h. later)
 
 -- ---- one institution alone
 
@@ -199,17 +128,10 @@ replies-all : (p : Event → Bool) (q : Event → Bool) → ((e : Event) → q e
     → replies_at p (filter q xs) (replies_from institutions world (filter q xs)) ≡ replies_from institutions world (filter q xs)
 replies-all p q within [] institutions world = refl
 replies-all p q within (x ∷ xs) institutions world =
-    by (q x) refl (replies-all p q within xs institutions (world_after_turn world (turn institutions world x))) (replies-all p q within xs institutions world) where
-      next : World
-      next = world_after_turn world (turn institutions world x)
-
-      by : (b : Bool) → q x ≡ b
-          → replies_at p (filter q xs) (replies_from institutions next (filter q xs)) ≡ replies_from institutions next (filter q xs)
-          → replies_at p (filter q xs) (replies_from institutions world (filter q xs)) ≡ replies_from institutions world (filter q xs)
-          → (let events = (if b then x ∷ filter q xs else filter q xs) in
-          replies_at p events (replies_from institutions world events) ≡ replies_from institutions world events)
-      by true h after without = rw (within x h) (ap (λ (rs : List Reply). (turn institutions world x).reply ∷ rs) after)
-      by false h after without = without
+    kept-or-not (λ es. replies_at p es (replies_from institutions world es) ≡ replies_from institutions world es) x (filter q xs) (q x)
+    (λ h. rw (within x h) (ap (λ (rs : List Reply). (turn institutions world x).reply ∷ rs)
+    (replies-all p q within xs institutions (world_after_turn world (turn institutions world x)))))
+    (λ h. replies-all p q within xs institutions world)
 
 -- the plain server answers the first events of a history alike
 replies-more : (institutions : List Institution) (world : World) (events later : List Event)
@@ -238,8 +160,8 @@ module _ (institutions : List Institution) (rows : List Row) (events : List Even
   rest-of k = ap (drop (length (own_among institutions i.name events k))) (sym (own-parts k)) ∙ drop-append_seam (own_among institutions i.name events k) _
 
   -- of the server alone the replies to the first own events begin those to all
-  pub alone-front : (k : ℕ) → IsPrefix (own_replies institutions rows events i k) (replies_alone i rows (own institutions i.name events))
-  alone-front k = (
+  pub alone_front : (k : ℕ) → IsPrefix (own_replies institutions rows events i k) (replies_alone i rows (own institutions i.name events))
+  alone_front k = (
     replies_from (i ∷ []) (world_from (i ∷ []) (first_world here) (own_among institutions i.name events k)) (filter mine (drop k events)),
     sym (replies-more (i ∷ []) (first_world here) (own_among institutions i.name events k) (filter mine (drop k events)))
         ∙ ap (replies_from (i ∷ []) (first_world here)) (own-parts k),
@@ -265,8 +187,7 @@ module _ (institutions : List Institution) (rows : List Row) (events : List Even
     own-here (event.Piece n piece) h = owns-here n h
     own-here (event.End n) h = owns-here n h
     own-here (event.Pull n) h = owns-here n h
-    own-here (event.Schedule inst octets) h = h
-    own-here (event.Withdraw inst id) h = h
+    own-here other h = h
 
     begins-here : Begins (i ∷ []) here (own institutions i.name events) i
     begins-here = record {
@@ -297,13 +218,13 @@ module _ (institutions : List Institution) (rows : List Row) (events : List Even
         sym (replies-all mine_here mine own-here (take k events) (i ∷ []) (first_world here))
         ∙ ap (λ (front : List Event). replies_at mine_here front (replies (i ∷ []) here front)) (sym (front-of k))
         ∙ sym (replies-front (i ∷ []) mine_here count (first_world here) es)
-        ∙ isolated-among adds lenses (i ∷ []) here es i count begins-here
+        ∙ isolated_among adds lenses (i ∷ []) here es i count begins-here
         ∙ rw (of-here, own-front_here k) refl
 
     pub records-here : of i.name (world_alone i rows (own institutions i.name events)).rows
         ≡ (alone_after (limits_of i) (of i.name rows) (own institutions i.name events)).records
     records-here =
-        isolated-records adds lenses (i ∷ []) here (own institutions i.name events) i begins-here
+        isolated_records adds lenses (i ∷ []) here (own institutions i.name events) i begins-here
         ∙ rw (of-here, filter-kept mine_here mine own-here events) refl
 
     -- the changes of the next own event
@@ -323,18 +244,18 @@ module _ (institutions : List Institution) (rows : List Row) (events : List Even
         let es = own institutions i.name events in
         let count = length (own_among institutions i.name events k) in
         let world = alone_after (limits_of i) (of i.name rows) (own_among institutions i.name events k) in
-        isolated-within adds lenses (i ∷ []) here es i count (own_operations mine (drop k events) j) begins-here
+        isolated_within adds lenses (i ∷ []) here es i count (own_operations mine (drop k events) j) begins-here
         ∙ rw (of-here, own-front_here k, rest-of k, changes-here j (drop k events) world) refl
 
     -- isolation, by the server alone
-    pub single-replies : replies_at mine events (replies institutions rows events) ≡ replies_alone i rows (own institutions i.name events)
-    single-replies = isolated-replies adds lenses institutions rows events i b ∙ sym replies-here
+    pub single_replies : replies_at mine events (replies institutions rows events) ≡ replies_alone i rows (own institutions i.name events)
+    single_replies = isolated-replies adds lenses institutions rows events i b ∙ sym replies-here
 
-    pub single-records : of i.name (world_after institutions rows events).rows ≡ of i.name (world_alone i rows (own institutions i.name events)).rows
-    single-records = isolated-records adds lenses institutions rows events i b ∙ sym records-here
+    pub single_records : of i.name (world_after institutions rows events).rows ≡ of i.name (world_alone i rows (own institutions i.name events)).rows
+    single_records = isolated_records adds lenses institutions rows events i b ∙ sym records-here
 
-    pub single-among : (k : ℕ) → replies_at mine events (take k (replies institutions rows events)) ≡ own_replies institutions rows events i k
-    single-among k = isolated-among adds lenses institutions rows events i k b ∙ sym (among-replies_here k)
+    pub single_among : (k : ℕ) → replies_at mine events (take k (replies institutions rows events)) ≡ own_replies institutions rows events i k
+    single_among k = isolated_among adds lenses institutions rows events i k b ∙ sym (among-replies_here k)
 
-    pub single-within : (k j : ℕ) → of i.name (rows_within institutions rows events k j) ≡ of i.name (own_rows_within institutions rows events i k j)
-    single-within k j = isolated-within adds lenses institutions rows events i k j b ∙ sym (within-here k j)
+    pub single_within : (k j : ℕ) → of i.name (rows_within institutions rows events k j) ≡ of i.name (own_rows_within institutions rows events i k j)
+    single_within k j = isolated_within adds lenses institutions rows events i k j b ∙ sym (within-here k j)

@@ -2,18 +2,9 @@
 use Rattle.std.proofs.Common.{◌≡◌, ℕ, ◌==◌, nat_lt, Bool, true, false, List, [], ◌∷◌, ◌++◌, Option, Some, None, refl, sym, arith, append_assoc}
 use Rattle.std.specs.List.{AllByRecursion}
 use Rattle.std.proofs.lemmas.Bool.Decides.{nat_tests}
-use Rattle.dq_config.specs.declared.config.Institution.{Institution}
-use Rattle.dq_core.specs.declared.event.Event.{Event}
+use Rattle.dq_core.proofs.isolation.Vocabulary.{Institution, Event, Answer, after_piece, next_page, Connection, new_connection, with_piece, with_query, connection_in, without, ConsoleOrder, Scheduling, Withdrawal, owner, octets_of_pieces, stream_of, is_above, newest_after, rises_from, World, turn, piece_turn, answer_by, end_turn, pull_turn, order_turn}
 use Rattle.dq_core.specs.declared.event.Event.TheVariants as event
-use Rattle.dq_core.specs.Answers.{Answer, after_piece}
-use Rattle.dq_core.specs.Pages.{next_page}
-use Rattle.dq_core.specs.Connections.{Connection, new_connection, with_piece, with_query, connection_in, without}
-use Rattle.dq_core.specs.Services.{ConsoleOrder, Scheduling, Withdrawal}
-use Rattle.dq_core.specs.Owners.{owner}
 use Rattle.dq_config.specs.Routing.{institution_named}
-use Rattle.dq_core.specs.Own.{octets_of_pieces, stream_of}
-use Rattle.dq_core.specs.Histories.{is_above, newest_after, rises_from}
-use Rattle.dq_core.specs.Shared.{World, turn, piece_turn, answer_by, end_turn, pull_turn, order_turn}
 use Rattle.dq_core.proofs.isolation.Lists.{differ, NotNumbered, AreApart, found-has, found-number, none-has, each-both, each-weaker, each-append, each-without, each-with, apart-without, apart-opened, apart-with, others-with, others-without}
 use Rattle.dq_core.proofs.isolation.Rising.{both-true}
 

@@ -1,25 +1,15 @@
 -- Rows that are sound and hold data sets.
-use Rattle.std.proofs.Common.{◌≡◌, ℕ, List, [], ◌∷◌, length, Result, Ok, Err, refl, sym, subst}
+use Rattle.std.proofs.Common.{◌≡◌, ℕ, List, [], ◌∷◌, Result, Ok, Err, refl}
 use Rattle.std.specs.List.{AllByRecursion}
 use Rattle.std.specs.Result.{result_unwrap_or}
-use Rattle.dq_list.specs.Octets.{AreOctets}
+use Rattle.dq_core.proofs.isolation.Vocabulary.{AreOctets, Syntax, ElementList, no_elements, Row, IsSound, HoldDataSets, HoldSound}
 use Rattle.dq_dataset.specs.declared.fault.ReadFault.{ReadFault}
-use Rattle.dq_dataset.specs.declared.header.Syntax.{Syntax}
 use Rattle.dq_dataset.specs.declared.header.Syntax.TheVariants.{Explicit}
-use Rattle.dq_dataset.specs.Tree.{ElementList, no_elements}
 use Rattle.dq_dataset.specs.DataSetReader.{data_set_read}
 use Rattle.dq_dataset.specs.Grammar.{IsSpelled}
 use Rattle.dq_dataset.specs.Facts.{IsDataSet}
-use Rattle.dq_config.specs.declared.config.Institution.{Institution}
-use Rattle.dq_tables.specs.declared.row.Row.{Row}
 use Rattle.dq_tables.specs.Rows.{IsRising}
 use Rattle.dq_tables.specs.Records.{data_set_of}
-use Rattle.dq_tables.specs.Sound.{IsSound}
-use Rattle.dq_core.specs.declared.event.Event.{Event}
-use Rattle.dq_core.specs.declared.event.Reply.{Reply}
-use Rattle.dq_core.specs.Runs.{IsRun}
-use Rattle.dq_core.specs.Soundness.{HoldDataSets, HoldSound, BringOctets}
-use Rattle.dq_core.proofs.isolation.Keeping.{Edits, ServicesKeep, within-kept}
 
 pub none-sound : HoldSound []
 unfolding IsRising
@@ -49,11 +39,3 @@ each-holds spelled facts (row ∷ rows) are = (is-data_set spelled facts row.oct
 pub octets-sound : ReadIsSpelled → SpelledIsDataSet → (rows : List Row) → IsSound rows → AllByRecursion (λ (row : Row). AreOctets row.octets) rows
     → HoldSound rows
 octets-sound spelled facts rows sound are = record { sound = sound; data_sets = each-holds spelled facts rows are }
-
--- ---- what the server keeps
-
-module _ (keep : ServicesKeep HoldSound) (lens : Edits) where
-  pub run-sound : (institutions : List Institution) (rows : List Row) (events : List Event) (given : List Reply) (kept : List Row)
-      → IsRun institutions rows events given kept → BringOctets events → HoldSound rows → HoldSound kept
-  run-sound institutions rows events given kept run brings sound =
-      subst HoldSound (sym run.rows_then) (within-kept HoldSound keep lens institutions rows events brings sound (length given) run.operations)

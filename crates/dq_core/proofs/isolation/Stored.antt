@@ -1,53 +1,25 @@
 -- What the status of a C-STORE says, over rows that the server made.
-use Rattle.std.proofs.Common.{◌≡◌, ℕ, ◌==◌, Bool, true, false, List, [], ◌∷◌, length, Option, Some, None, refl, sym, ap, ◌∙◌, subst, arith}
+use Rattle.std.proofs.Common.{◌≡◌, ℕ, ◌==◌, Bool, true, false, List, [], ◌∷◌, Option, Some, None, refl, sym, ap, ◌∙◌, subst, arith}
 use Rattle.std.specs.List.{AllByRecursion}
 use Rattle.std.specs.Result.{result_unwrap_or}
 use Rattle.std.specs.Str.{bytes_eq}
-use Rattle.dq_list.specs.Octets.{AreOctets}
-use Rattle.dq_dataset.specs.declared.header.Syntax.{Syntax}
+use Rattle.dq_core.proofs.isolation.Vocabulary.{AreOctets, Syntax, no_elements, c_cancel, c_store, Message, success, elements_discarded, AcceptedContext, Agreement, Storage, service_of, uid_of, context_of, Sent, Institution, Limits, limits_of, Row, IsSound, Event, DimseOperation, Store, AreMade, BringOctets, ServicesKeep, Arrival, InputAt, arrivals}
 use Rattle.dq_dataset.specs.DataSetReader.{data_set_read}
-use Rattle.dq_dataset.specs.Tree.{no_elements}
-use Rattle.dq_dimse.specs.CommandFields.{c_cancel, c_store}
-use Rattle.dq_dimse.specs.Received.{Message}
-use Rattle.dq_dimse.specs.Statuses.{success, elements_discarded}
-use Rattle.dq_assoc.specs.declared.agreement.AcceptedContext.{AcceptedContext}
-use Rattle.dq_assoc.specs.declared.agreement.Agreement.{Agreement}
 use Rattle.dq_assoc.specs.declared.classes.Service.{Service}
-use Rattle.dq_assoc.specs.declared.classes.Service.TheVariants.{Storage}
-use Rattle.dq_assoc.specs.Classes.{service_of, uid_of}
-use Rattle.dq_assoc.specs.Negotiation.{context_of}
-use Rattle.dq_assoc.specs.Table.{Sent}
-use Rattle.dq_config.specs.declared.config.Institution.{Institution}
-use Rattle.dq_config.specs.Limits.{Limits, limits_of}
 use Rattle.dq_match.specs.declared.responses.Found.{Found}
-use Rattle.dq_tables.specs.declared.row.Row.{Row}
 use Rattle.dq_tables.specs.Rows.{Record, Edit, of, by, after}
-use Rattle.dq_tables.specs.Sound.{IsSound}
 use Rattle.dq_store.specs.Levels.{is_of_its_level, stands_whole}
 use Rattle.dq_store.specs.CStore.{instance_in, store_outcome}
-use Rattle.dq_core.specs.declared.event.Event.{Event}
-use Rattle.dq_core.specs.declared.event.Reply.{Reply}
-use Rattle.dq_core.specs.Runs.{IsRun}
 use Rattle.dq_core.specs.Services.{Responses, Served, service_of_message, served_by, operation_named, operation_outcome, outcome_of, message_outcome}
-use Rattle.dq_core.specs.declared.dimse_operation.DimseOperation.{DimseOperation}
-use Rattle.dq_core.specs.declared.dimse_operation.DimseOperation.TheVariants.{Store}
-use Rattle.dq_core.specs.Soundness.{AreMade, BringOctets}
-use Rattle.dq_core.specs.Conversations.{Arrival, InputAt, arrivals}
 use Rattle.dq_core.specs.Stores.{SaysWhatStands, IsToldTruly, IsToldTrulyAt}
 use Rattle.dq_core.proofs.isolation.Octets.{to-octets}
-use Rattle.dq_core.proofs.isolation.Keeping.{Edits, ServicesKeep, within-kept}
+use Rattle.dq_core.proofs.isolation.Keeping.{Edits}
 use Rattle.dq_core.proofs.isolation.Soundness.{none-sound}
 use Rattle.dq_core.proofs.isolation.Arriving.{IsMetAt, each-met}
 use Rattle.dq_core.proofs.isolation.Exact.{only, responses-are}
 
 pub none-made : AreMade []
 none-made = record { sound = none-sound; levels = tt }
-
-module _ (keep : ServicesKeep AreMade) (lens : Edits) where
-  pub run-made : (institutions : List Institution) (rows : List Row) (events : List Event) (given : List Reply) (kept : List Row)
-      → IsRun institutions rows events given kept → BringOctets events → AreMade rows → AreMade kept
-  run-made institutions rows events given kept run brings made =
-      subst AreMade (sym run.rows_then) (within-kept AreMade keep lens institutions rows events brings made (length given) run.operations)
 
 -- ---- what the law of C-STORE says
 

@@ -4,24 +4,11 @@ use Rattle.std.specs.Prelude.{filter}
 use Rattle.std.specs.List.{AllByRecursion}
 use Rattle.std.proofs.lemmas.List.{take-append-drop, append-nil}
 use Rattle.std.proofs.lemmas.Bool.{false≢true}
-use Rattle.dq_pdu.specs.declared.pdu.Request.{Request}
-use Rattle.dq_assoc.specs.Inputs.{inputs}
-use Rattle.dq_config.specs.declared.config.Institution.{Institution}
-use Rattle.dq_core.specs.declared.event.Event.{Event}
+use Rattle.dq_core.proofs.isolation.Vocabulary.{Request, inputs, Institution, Event, Row, ConsoleOrder, Scheduling, Withdrawal, request_in, next_page, Connection, with_query, connection_in, owner, owner_by, World, EventEffect, turn, answer_by, owner_turn, piece_turn, end_turn, pull_turn, order_turn, world_after_turn, replies_from, first_world, replies, octets_of_pieces, stream_of, is_on, is_on_connection, replies_at, newest_after, is_well_formed_history, stranger_replies}
 use Rattle.dq_core.specs.declared.event.Event.TheVariants as event
-use Rattle.dq_tables.specs.declared.row.Row.{Row}
 use Rattle.dq_config.specs.Routing.{institution_routed, institution_named}
-use Rattle.dq_core.specs.Services.{ConsoleOrder, Scheduling, Withdrawal}
-use Rattle.dq_core.specs.Answers.{request_in}
-use Rattle.dq_core.specs.Pages.{next_page}
-use Rattle.dq_core.specs.Connections.{Connection, with_query, connection_in}
-use Rattle.dq_core.specs.Owners.{owner, owner_by}
-use Rattle.dq_core.specs.Shared.{World, EventEffect, turn, answer_by, owner_turn, piece_turn, end_turn, pull_turn, order_turn, world_after_turn, replies_from, first_world, replies}
-use Rattle.dq_core.specs.Own.{octets_of_pieces, stream_of, is_on, is_on_connection, replies_at}
-use Rattle.dq_core.specs.Histories.{newest_after, is_well_formed_history}
-use Rattle.dq_core.specs.Isolation.{stranger_replies}
 use Rattle.dq_core.proofs.isolation.Lists.{at-number, among, among-opened, among-other_opened, in-among, without-among, without-other, with-among, with-other, piece-among, piece-other, found-number}
-use Rattle.dq_core.proofs.isolation.Streams.{AddsInputs, owner-stays}
+use Rattle.dq_core.proofs.isolation.Streams.{AddsInputs, owner_stays}
 use Rattle.dq_core.proofs.isolation.Sound.{Owned, Sound, owned-piece, sound-next}
 use Rattle.dq_core.proofs.isolation.Promise.{replies-front}
 
@@ -46,7 +33,7 @@ record IsAlike (mine : ℕ → Bool) (t u : EventEffect) : Type 0 where
 none-before : AddsInputs → (institutions : List Institution) (stream more : List ℕ) → owner institutions (stream ++ more) ≡ None → (o : Option Institution)
     → owner institutions stream ≡ o → o ≡ None
 none-before adds institutions stream more final None e = refl
-none-before adds institutions stream more final (Some i) e = let both : None ≡ Some i = sym final ∙ owner-stays adds institutions stream more i e in cc
+none-before adds institutions stream more final (Some i) e = let both : None ≡ Some i = sym final ∙ owner_stays adds institutions stream more i e in cc
 
 module _ (institutions : List Institution) (mine : ℕ → Bool) (world : World) where
   module _ (adds : AddsInputs) (other : World) (b : other.connections ≡ among mine world.connections) where
@@ -94,8 +81,7 @@ module _ (institutions : List Institution) (mine : ℕ → Bool) (world : World)
     alike newest (event.Pull n) rest s m =
         let same : connection_in n other.connections ≡ connection_in n world.connections = rw b (in-among mine n world.connections m) in
         rw same (alike-pull n m (connection_in n world.connections) refl)
-    alike newest (event.Schedule inst octets) rest s m = absurd (false≢true m)
-    alike newest (event.Withdraw inst id) rest s m = absurd (false≢true m)
+    alike newest other rest s m = absurd (false≢true m)
 
   -- An event on another leaves them.
   kept-piece : (n : ℕ) (piece : List ℕ) → mine n ≡ false → (o : Option Connection) → connection_in n world.connections ≡ o
@@ -170,15 +156,15 @@ module _ (adds : AddsInputs) (institutions : List Institution) where
     }
 
     -- the replies on a connection that nobody owns, among the first replies
-    pub strange-among : (k : ℕ) → owner institutions (stream_of number events) ≡ None → is_well_formed_history events ≡ true
+    pub strange_among : (k : ℕ) → owner institutions (stream_of number events) ≡ None → is_well_formed_history events ≡ true
         → replies_at (is_on_connection number) events (take k (replies institutions rows events))
         ≡ stranger_replies (filter (is_on_connection number) (take k events))
-    strange-among k none w =
+    strange_among k none w =
         replies-front institutions (is_on_connection number) k (first_world rows) events
         ∙ strange-from (λ n. n == number) (take k events) (drop k events) None (first_world rows) (first_world []) refl
         (rw (take-append-drop k events) (sound-opening none w))
 
     -- and all of them
-    pub strange-replies : owner institutions (stream_of number events) ≡ None → is_well_formed_history events ≡ true
+    pub strange_replies : owner institutions (stream_of number events) ≡ None → is_well_formed_history events ≡ true
         → replies_at (is_on_connection number) events (replies institutions rows events) ≡ stranger_replies (filter (is_on_connection number) events)
-    strange-replies none w = strange-from (λ n. n == number) events [] None (first_world rows) (first_world []) refl (rw append-nil (sound-opening none w))
+    strange_replies none w = strange-from (λ n. n == number) events [] None (first_world rows) (first_world []) refl (rw append-nil (sound-opening none w))

@@ -2,20 +2,8 @@
 use Rattle.std.proofs.Common.{◌≡◌, ℕ, List, [], ◌∷◌, ◌++◌, length, drop, Option, Some, None, option_map, refl, sym, ap, ◌∙◌, append_assoc}
 use Rattle.std.proofs.lemmas.List.{append_cancel_left}
 use Rattle.std.proofs.Math.Seq.{drop-append_seam}
-use Rattle.dq_pdu.specs.declared.pdu.Request.{Request}
-use Rattle.dq_assoc.specs.declared.association.Verdict.{Verdict}
-use Rattle.dq_assoc.specs.Table.{Input, Requested, Sent, Released, Bad}
-use Rattle.dq_assoc.specs.Inputs.{inputs, AreInputs}
-use Rattle.dq_assoc.specs.declared.agreement.Agreement.{Agreement}
-use Rattle.dq_config.specs.declared.config.Institution.{Institution}
-use Rattle.dq_config.specs.Limits.{Limits}
-use Rattle.dq_assoc.specs.Negotiation.{agreement_of}
-use Rattle.dq_tables.specs.Rows.{Record}
-use Rattle.dq_core.specs.Pages.{OpenQuery}
-use Rattle.dq_core.specs.Connections.{Connection, with_piece}
-use Rattle.dq_core.specs.Answers.{then_answer, input_answers, request_in, progress_of, inputs_added, piece_answer}
+use Rattle.dq_core.proofs.isolation.Vocabulary.{Request, Verdict, Input, Requested, Sent, Released, Bad, inputs, AreInputs, Agreement, Institution, Limits, agreement_of, Record, OpenQuery, Connection, with_piece, then_answer, input_answers, request_in, progress_of, inputs_added, piece_answer, owner, owner_by}
 use Rattle.dq_core.specs.Effects.{agreement_after}
-use Rattle.dq_core.specs.Owners.{owner, owner_by}
 use Rattle.dq_core.proofs.isolation.AnswerLaws.{answers-append, next-agreement, verdict-unread}
 
 -- a longer stream has further inputs
@@ -66,11 +54,11 @@ progress-longer adds has limits verdict records c first query =
     ∙ ap (λ xs. option_map agreement_of (request_in xs)) (sym (added-are adds stream first))
 
 -- a piece in two parts: the second part is answered from what the first part left
-pub piece-in_two : AddsInputs → HasInputs → (limits : Limits) (verdict : Verdict) (records : List Record) (c : Connection) (first second : List ℕ)
+pub piece_in_two : AddsInputs → HasInputs → (limits : Limits) (verdict : Verdict) (records : List Record) (c : Connection) (first second : List ℕ)
     → let a = piece_answer limits verdict records c first in
     piece_answer limits verdict records c (first ++ second)
     ≡ then_answer a (piece_answer limits verdict a.next.records (with_piece c first a.next.query) second)
-piece-in_two adds has limits verdict records c first second =
+piece_in_two adds has limits verdict records c first second =
     let stream = c.stream in
     let a = piece_answer limits verdict records c first in
     ap (input_answers limits verdict (progress_of c records)) (added-append adds stream first second)
@@ -79,10 +67,10 @@ piece-in_two adds has limits verdict records c first second =
     (inputs_added (stream ++ first) second))) (progress-longer adds has limits verdict records c first a.next.query)
 
 -- the verdict is not read after a request
-pub piece-verdict : (limits : Limits) (verdict other : Verdict) (records : List Record) (c : Connection) (piece : List ℕ) (request : Request)
+pub piece_verdict : (limits : Limits) (verdict other : Verdict) (records : List Record) (c : Connection) (piece : List ℕ) (request : Request)
     → request_in (inputs c.stream) ≡ Some request
     → piece_answer limits verdict records c piece ≡ piece_answer limits other records c piece
-piece-verdict limits verdict other records c piece request e =
+piece_verdict limits verdict other records c piece request e =
     verdict-unread limits verdict other records c.query (option_map agreement_of (request_in (inputs c.stream))) (agreement_of request)
     (inputs_added c.stream piece)
     (ap (option_map agreement_of) e)
@@ -97,9 +85,9 @@ owner-first : (institutions : List Institution) (xs ys : List Input) (i : Instit
 owner-first institutions [] ys i h = cc
 owner-first institutions (x ∷ xs) ys i h = ap (owner_by institutions) (request_in-first x (xs ++ ys) xs) ∙ h
 
-pub owner-stays : AddsInputs → (institutions : List Institution) (stream more : List ℕ) (i : Institution) → owner institutions stream ≡ Some i
+pub owner_stays : AddsInputs → (institutions : List Institution) (stream more : List ℕ) (i : Institution) → owner institutions stream ≡ Some i
     → owner institutions (stream ++ more) ≡ Some i
-owner-stays adds institutions stream more i h =
+owner_stays adds institutions stream more i h =
     ap (λ xs. owner_by institutions (request_in xs)) (adds stream more).1 ∙ owner-first institutions (inputs stream) (adds stream more).0 i h
 
 none-first : (institutions : List Institution) (xs ys : List Input) (i : Institution) → owner_by institutions (request_in xs) ≡ None

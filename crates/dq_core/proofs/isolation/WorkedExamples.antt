@@ -19,7 +19,7 @@ use Rattle.dq_dataset.specs.Values.{sole_at}
 use Rattle.dq_dimse.specs.Commands.{command_from, command_of}
 use Rattle.dq_assoc.specs.Classes.{class_of}
 use Rattle.dq_core.specs.declared.event.Event.TheVariants.{Open, Piece, End, Schedule, Withdraw}
-use Rattle.dq_core.specs.declared.event.Reply.{Reply}
+use Rattle.dq_core.proofs.isolation.Vocabulary.{Reply, replies, own}
 use Rattle.dq_core.specs.declared.event.Reply.TheVariants.{Octets, Done, Refused, Ignored}
 use Rattle.dq_config.specs.Document.{built_in}
 use Rattle.dq_config.specs.Routing.{institution_routed, has_route, joins, institution_named}
@@ -38,8 +38,6 @@ use Rattle.dq_tables.specs.Records.{data_set_of}
 use Rattle.dq_tables.specs.Keys.{uid_at}
 use Rattle.dq_core.specs.Services.{service_of_message, console_outcome}
 use Rattle.dq_core.specs.Pages.{reaction}
-use Rattle.dq_core.specs.Shared.{replies}
-use Rattle.dq_core.specs.Own.{own}
 use Rattle.dq_core.specs.Examples.{request_from, associate_request, acceptance_pdu, modality_title, ct1, ct2, ct9, four_contexts, four_results, find_request, find_accepted, example_element, example_short_element, value_pdu, request_set, response_set, verification, echo, example_response, echo_response, find_command, find_status, find_level, find_studies, find_uids, found_study, store_on, store_status, north, south, two, kept_study, history, reply_with}
 
 -- a C-ECHO with a private element of undefined length after it, a sequence without items
@@ -52,10 +50,9 @@ echo_of_two_groups = value_pdu 82 78 3 (request_set 56 verification 0x0030 0x010
 
 -- in fragments of two octets, as for a peer that takes PDUs of 8 octets
 abbrev in_twos : List ℕ → List ℕ
-in_twos [] = []
-in_twos (a ∷ []) = []
 in_twos (a ∷ b ∷ []) = value_pdu 8 4 3 (a ∷ b ∷ [])
 in_twos (a ∷ b ∷ c ∷ octets) = value_pdu 8 4 1 (a ∷ b ∷ []) ++ in_twos (c ∷ octets)
+in_twos other = []
 
 -- a C-CANCEL of the message with the id 1
 abbrev cancel : List ℕ
@@ -83,125 +80,73 @@ verification_class = codes "1.2.840.10008.1.1" ++ 0 ∷ []
 abbrev closed : List ℕ → Reply
 closed octets = Octets 1 octets true
 
--- a C-ECHO, a PDU a piece, and as one piece
-an_association :
+-- where messages are served, or refused
+with_messages :
+    -- a C-ECHO, a PDU a piece, and as one piece
     (replies built_in [] (history (associate_request modality_title ∷ echo ∷ release ∷ [])) ≡ Done ∷ reply_with (acceptance_pdu modality_title) ∷ reply_with echo_response ∷ closed released ∷ [])
     × (replies built_in [] (history ((associate_request modality_title ++ echo ++ release) ∷ [])) ≡ Done ∷ closed (acceptance_pdu modality_title ++ echo_response ++ released) ∷ [])
-unfolding pdus_within first_pdu pdu_of associate_of fields_of request_of item_at pdv_at proposed_of user_information_of data_pdu_of successive_parts institution_routed has_route joins built_in class_of
-    without_spaces without_leading without_trailing kept_before messages_from command_from command_of data_set_read readers elements_by element_by elements_after value_by
-    items_by item_by items_after front_at header_at end_at is_below tag_at spelling_at long_length_at content_of known_vr vr_in dictionary trimmed_value without_padding is_padded
-    ignores_leading_spaces service_of_message reaction
-an_association = (refl, refl)
-
--- a sequence in a command set, an element of another group, and fragments of two octets for a peer that takes PDUs of 8
-command_sets :
-    (replies built_in [] (history (associate_request modality_title ∷ echo_with_sequence ∷ [])) ≡ Done ∷ reply_with (acceptance_pdu modality_title) ∷ reply_with echo_response ∷ [])
+    -- a sequence in a command set, an element of another group, and fragments of two octets for a peer that takes PDUs of 8
+    × (replies built_in [] (history (associate_request modality_title ∷ echo_with_sequence ∷ [])) ≡ Done ∷ reply_with (acceptance_pdu modality_title) ∷ reply_with echo_response ∷ [])
     × (replies built_in [] (history (associate_request modality_title ∷ echo_of_two_groups ∷ [])) ≡ Done ∷ reply_with (acceptance_pdu modality_title) ∷ closed (short 7 0 2 6) ∷ [])
     × (replies built_in [] (history (request_from 1 modality_title 1 8 ∷ echo ∷ [])) ≡ Done ∷ reply_with (acceptance_pdu modality_title) ∷ reply_with
     (in_twos (response_set 66 verification 0x8030 0x0101 0x0000)) ∷ [])
-unfolding pdus_within first_pdu pdu_of associate_of fields_of request_of item_at pdv_at proposed_of user_information_of data_pdu_of successive_parts institution_routed has_route joins built_in class_of
-    without_spaces without_leading without_trailing kept_before messages_from command_from command_of data_set_read readers elements_by element_by elements_after value_by
-    items_by item_by items_after front_at header_at end_at is_below tag_at spelling_at long_length_at content_of known_vr vr_in dictionary trimmed_value without_padding is_padded
-    ignores_leading_spaces service_of_message reaction
-command_sets = (refl, refl, refl)
-
--- a C-ECHO of another class than the context has; a C-FIND on Verification, of whatever class; a C-CANCEL
-statuses :
-    (replies built_in [] (history (associate_request modality_title ∷ command 0x0030 (codes "1.2.840.10008.1.20") ∷ [])) ≡ Done ∷ reply_with (acceptance_pdu modality_title) ∷ reply_with
+    -- a C-ECHO of another class than the context has; a C-FIND on Verification, of whatever class; a C-CANCEL
+    × (replies built_in [] (history (associate_request modality_title ∷ command 0x0030 (codes "1.2.840.10008.1.20") ∷ [])) ≡ Done ∷ reply_with (acceptance_pdu modality_title) ∷ reply_with
     (example_response 0x8030 0x0122) ∷ [])
     × (replies built_in [] (history (associate_request modality_title ∷ command 0x0020 verification_class ∷ command 0x0020
     (codes "1.2.840.10008.1.20") ∷ [])) ≡ Done ∷ reply_with (acceptance_pdu modality_title) ∷ reply_with (example_response 0x8020 0x0211) ∷ reply_with (example_response 0x8020 0x0211) ∷ [])
     × (replies built_in [] (history (associate_request modality_title ∷ cancel ∷ echo ∷ [])) ≡ Done ∷ reply_with (acceptance_pdu modality_title) ∷ reply_with [] ∷ reply_with echo_response ∷ [])
+    -- a release in mid-message, and a PDU of unknown type after a message
+    × (replies built_in [] (history (associate_request modality_title ∷ (value_pdu 24 20 1 (example_element 0x0000 4
+    (56 ∷ 0 ∷ 0 ∷ 0 ∷ []) ++ 0 ∷ 0 ∷ 2 ∷ 0 ∷ 18 ∷ 0 ∷ []) ++ release) ∷ [])) ≡ Done ∷ reply_with (acceptance_pdu modality_title) ∷ closed released ∷ [])
+    × (replies built_in [] (history (associate_request modality_title ∷ (echo ++ 8 ∷ 0 ∷ 0 ∷ 0 ∷ 0 ∷ 0 ∷ []) ∷ [])) ≡ Done ∷ reply_with (acceptance_pdu modality_title) ∷ closed (echo_response ++ short 7 0 2 1) ∷ [])
+    -- two institutions, PDU by PDU; ends; a piece after the close, and one before the opening
+    × (replies (two 4) [] (Open 1 ∷ Open 2 ∷ Piece 2 (associate_request ct2) ∷ Piece 1 (associate_request ct1) ∷ Piece 2 echo ∷ Piece 1 echo ∷
+    Piece 1 release ∷ End 1 ∷ End 2 ∷ End 2 ∷ Piece 2 echo ∷ End 9 ∷ []) ≡ Done ∷ Done ∷ Octets 2 (acceptance_pdu ct2) false ∷ Octets 1 (acceptance_pdu ct1)
+    false ∷ Octets 2 echo_response false ∷ Octets 1 echo_response false ∷ Octets 1 released true ∷ Ignored ∷ Done ∷ Ignored ∷ Ignored ∷ Ignored ∷ [])
 unfolding pdus_within first_pdu pdu_of associate_of fields_of request_of item_at pdv_at proposed_of user_information_of data_pdu_of successive_parts institution_routed has_route joins built_in class_of
     without_spaces without_leading without_trailing kept_before messages_from command_from command_of data_set_read readers elements_by element_by elements_after value_by
     items_by item_by items_after front_at header_at end_at is_below tag_at spelling_at long_length_at content_of known_vr vr_in dictionary trimmed_value without_padding is_padded
     ignores_leading_spaces service_of_message reaction
-statuses = (refl, refl, refl)
+with_messages = (refl, refl, refl, refl, refl, refl, refl, refl, refl, refl, refl)
 
--- a pair of titles that no institution has; a version without bit 0; a maximum length that leaves no room; a context with an even id
-rejections :
+-- where no message is served
+without_a_message :
+    -- a pair of titles that no institution has; a version without bit 0; a maximum length that leaves no room; a context with an even id
     (replies built_in [] (history (associate_request ct9 ∷ [])) ≡ Done ∷ closed (short 3 1 1 1) ∷ [])
     × (replies built_in [] (history (request_from 2 modality_title 1 16384 ∷ [])) ≡ Done ∷ closed (short 3 1 2 2) ∷ [])
     × (replies built_in [] (history (request_from 2 ct9 1 7 ∷ [])) ≡ Done ∷ closed (short 3 1 2 2) ∷ [])
     × (replies built_in [] (history (request_from 1 modality_title 1 7 ∷ [])) ≡ Done ∷ closed (short 3 1 1 1) ∷ [])
     × (replies built_in [] (history (request_from 1 modality_title 2 16384 ∷ [])) ≡ Done ∷ closed (short 7 0 0 0) ∷ [])
-unfolding pdus_within first_pdu pdu_of associate_of fields_of request_of item_at pdv_at proposed_of user_information_of data_pdu_of successive_parts institution_routed has_route joins built_in class_of
-    without_spaces without_leading without_trailing kept_before messages_from
-rejections = (refl, refl, refl, refl, refl)
-
--- Explicit before Implicit; result 4 where no syntax is taken, and 3 where the class is not served
-contexts : replies built_in [] (history (four_contexts ∷ [])) ≡ Done ∷ reply_with four_results ∷ []
-unfolding pdus_within first_pdu pdu_of associate_of fields_of request_of item_at pdv_at proposed_of user_information_of data_pdu_of successive_parts institution_routed has_route joins built_in class_of
-    without_spaces without_leading without_trailing kept_before messages_from
-contexts = refl
-
--- a value, a release, and a PDU of unknown type with a piece after it, where a request is due; the peer's abort there
-in_place_of_a_request :
-    (replies built_in [] (history (value_pdu 6 2 3 [] ∷ [])) ≡ Done ∷ closed (short 7 0 0 0) ∷ [])
+    -- Explicit before Implicit; result 4 where no syntax is taken, and 3 where the class is not served
+    × (replies built_in [] (history (four_contexts ∷ [])) ≡ Done ∷ reply_with four_results ∷ [])
+    -- a value, a release, and a PDU of unknown type with a piece after it, where a request is due; the peer's abort there
+    × (replies built_in [] (history (value_pdu 6 2 3 [] ∷ [])) ≡ Done ∷ closed (short 7 0 0 0) ∷ [])
     × (replies built_in [] (history (release ∷ [])) ≡ Done ∷ closed (short 7 0 0 0) ∷ [])
     × (replies built_in [] (history ((8 ∷ 0 ∷ 0 ∷ 0 ∷ 0 ∷ 0 ∷ []) ∷ (0 ∷ []) ∷ [])) ≡ Done ∷ closed (short 7 0 0 0) ∷ Ignored ∷ [])
     × (replies built_in [] (history (short 7 0 0 0 ∷ echo ∷ [])) ≡ Done ∷ closed [] ∷ Ignored ∷ [])
-unfolding pdus_within first_pdu pdu_of associate_of fields_of request_of item_at pdv_at proposed_of user_information_of data_pdu_of successive_parts institution_routed has_route joins built_in class_of
-    without_spaces without_leading without_trailing kept_before messages_from
-in_place_of_a_request = (refl, refl, refl, refl)
-
--- a second request, a PDU of 65,537 octets, a value longer than its PDU, no values, the peer's abort
-after_a_request :
-    (replies built_in [] (history (associate_request modality_title ∷ associate_request modality_title ∷ [])) ≡ Done ∷ reply_with (acceptance_pdu modality_title) ∷ closed (short 7 0 2 2) ∷ [])
+    -- a second request, a PDU of 65,537 octets, a value longer than its PDU, no values, the peer's abort
+    × (replies built_in [] (history (associate_request modality_title ∷ associate_request modality_title ∷ [])) ≡ Done ∷ reply_with (acceptance_pdu modality_title) ∷ closed (short 7 0 2 2) ∷ [])
     × (replies built_in [] (history (associate_request modality_title ∷ (4 ∷ 0 ∷ 0 ∷ 1 ∷ 0 ∷ 1 ∷ []) ∷ [])) ≡ Done ∷ reply_with (acceptance_pdu modality_title) ∷ closed (short 7 0 2 6) ∷ [])
     × (replies built_in [] (history (associate_request modality_title ∷ value_pdu 6 3 3 [] ∷ [])) ≡ Done ∷ reply_with (acceptance_pdu modality_title) ∷ closed (short 7 0 2 6) ∷ [])
     × (replies built_in [] (history (associate_request modality_title ∷ (4 ∷ 0 ∷ 0 ∷ 0 ∷ 0 ∷ 0 ∷ []) ∷ [])) ≡ Done ∷ reply_with (acceptance_pdu modality_title) ∷ closed (short 7 0 2 6) ∷ [])
     × (replies built_in [] (history (associate_request modality_title ∷ short 7 0 0 0 ∷ [])) ≡ Done ∷ reply_with (acceptance_pdu modality_title) ∷ closed [] ∷ [])
-unfolding pdus_within first_pdu pdu_of associate_of fields_of request_of item_at pdv_at proposed_of user_information_of data_pdu_of successive_parts institution_routed has_route joins built_in class_of
-    without_spaces without_leading without_trailing kept_before messages_from
-after_a_request = (refl, refl, refl, refl, refl)
-
--- a release in mid-message, and a PDU of unknown type after a message
-in_mid_message :
-    (replies built_in [] (history (associate_request modality_title ∷ (value_pdu 24 20 1 (example_element 0x0000 4
-    (56 ∷ 0 ∷ 0 ∷ 0 ∷ []) ++ 0 ∷ 0 ∷ 2 ∷ 0 ∷ 18 ∷ 0 ∷ []) ++ release) ∷ [])) ≡ Done ∷ reply_with (acceptance_pdu modality_title) ∷ closed released ∷ [])
-    × (replies built_in [] (history (associate_request modality_title ∷ (echo ++ 8 ∷ 0 ∷ 0 ∷ 0 ∷ 0 ∷ 0 ∷ []) ∷ [])) ≡ Done ∷ reply_with (acceptance_pdu modality_title) ∷ closed (echo_response ++ short 7 0 2 1) ∷ [])
-unfolding pdus_within first_pdu pdu_of associate_of fields_of request_of item_at pdv_at proposed_of user_information_of data_pdu_of successive_parts institution_routed has_route joins built_in class_of
-    without_spaces without_leading without_trailing kept_before messages_from command_from command_of data_set_read readers elements_by element_by elements_after value_by
-    items_by item_by items_after front_at header_at end_at is_below tag_at spelling_at long_length_at content_of known_vr vr_in dictionary trimmed_value without_padding is_padded
-    ignores_leading_spaces service_of_message reaction
-in_mid_message = (refl, refl)
-
--- two institutions, PDU by PDU; ends; a piece after the close, and one before the opening
-two_institutions : replies (two 4) [] (Open 1 ∷ Open 2 ∷ Piece 2 (associate_request ct2) ∷ Piece 1 (associate_request ct1) ∷ Piece 2 echo ∷ Piece 1 echo ∷
-    Piece 1 release ∷ End 1 ∷ End 2 ∷ End 2 ∷ Piece 2 echo ∷ End 9 ∷ []) ≡ Done ∷ Done ∷ Octets 2 (acceptance_pdu ct2) false ∷ Octets 1 (acceptance_pdu ct1)
-    false ∷ Octets 2 echo_response false ∷ Octets 1 echo_response false ∷ Octets 1 released true ∷ Ignored ∷ Done ∷ Ignored ∷ Ignored ∷ Ignored ∷ []
-unfolding pdus_within first_pdu pdu_of associate_of fields_of request_of item_at pdv_at proposed_of user_information_of data_pdu_of successive_parts institution_routed has_route joins built_in class_of
-    without_spaces without_leading without_trailing kept_before messages_from command_from command_of data_set_read readers elements_by element_by elements_after value_by
-    items_by item_by items_after front_at header_at end_at is_below tag_at spelling_at long_length_at content_of known_vr vr_in dictionary trimmed_value without_padding is_padded
-    ignores_leading_spaces service_of_message reaction
-two_institutions = refl
-
--- an institution that may have one association open: a second is busy, another institution is not, and a release or an end gives the place back
-one_at_a_time : replies (two 1) [] (Open 1 ∷ Open 2 ∷ Open 3 ∷ Piece 1 (associate_request ct1) ∷ Piece 2 (associate_request ct1) ∷ Piece 3 (associate_request
+    -- an institution that may have one association open: a second is busy, another institution is not, and a release or an end gives the place back
+    × (replies (two 1) [] (Open 1 ∷ Open 2 ∷ Open 3 ∷ Piece 1 (associate_request ct1) ∷ Piece 2 (associate_request ct1) ∷ Piece 3 (associate_request
     ct2) ∷ Piece 1 release ∷ Open 4 ∷ Piece 4 (associate_request ct1) ∷ End 4 ∷ Open 5 ∷ Piece 5 (associate_request ct1) ∷ []) ≡ Done ∷ Done ∷ Done ∷ Octets 1
     (acceptance_pdu ct1) false ∷ Octets 2 (short 3 2 3 2) true ∷ Octets 3 (acceptance_pdu ct2) false ∷ Octets 1 released true ∷ Done ∷ Octets 4
-    (acceptance_pdu ct1) false ∷ Done ∷ Done ∷ Octets 5 (acceptance_pdu ct1) false ∷ []
-unfolding pdus_within first_pdu pdu_of associate_of fields_of request_of item_at pdv_at proposed_of user_information_of data_pdu_of successive_parts institution_routed has_route joins built_in class_of
-    without_spaces without_leading without_trailing kept_before messages_from
-one_at_a_time = refl
-
--- of a request that does not pass the checks nobody asks whether it is busy
-a_busy_request : replies (two 1) [] (Open 1 ∷ Open 2 ∷ Piece 1 (associate_request ct1) ∷ Piece 2 (request_from 2 ct1 1 16384) ∷ []) ≡ Done ∷ Done ∷ Octets 1
-    (acceptance_pdu ct1) false ∷ Octets 2 (short 3 1 2 2) true ∷ []
-unfolding pdus_within first_pdu pdu_of associate_of fields_of request_of item_at pdv_at proposed_of user_information_of data_pdu_of successive_parts institution_routed has_route joins built_in class_of
-    without_spaces without_leading without_trailing kept_before messages_from
-a_busy_request = refl
-
--- whose the events are: a connection's, also before it is known, and the console's
-own_events :
-    (own (two 4) north (Open 1 ∷ Open 2 ∷ Piece 2 (associate_request ct2) ∷ End 1 ∷ Piece 1 echo ∷ Open 3 ∷ Piece 3
+    (acceptance_pdu ct1) false ∷ Done ∷ Done ∷ Octets 5 (acceptance_pdu ct1) false ∷ [])
+    -- of a request that does not pass the checks nobody asks whether it is busy
+    × (replies (two 1) [] (Open 1 ∷ Open 2 ∷ Piece 1 (associate_request ct1) ∷ Piece 2 (request_from 2 ct1 1 16384) ∷ []) ≡ Done ∷ Done ∷ Octets 1
+    (acceptance_pdu ct1) false ∷ Octets 2 (short 3 1 2 2) true ∷ [])
+    -- whose the events are: a connection's, also before it is known, and the console's
+    × (own (two 4) north (Open 1 ∷ Open 2 ∷ Piece 2 (associate_request ct2) ∷ End 1 ∷ Piece 1 echo ∷ Open 3 ∷ Piece 3
     (associate_request ct1) ∷ Schedule south [] ∷ Withdraw north [] ∷ []) ≡ Open 3 ∷ Piece 3 (associate_request ct1) ∷ Withdraw north [] ∷ [])
     × (own (two 4) north (Piece 1 [] ∷ Open 1 ∷ Piece 1 (take 20 (associate_request ct1)) ∷ Piece 1 (drop 20
     (associate_request ct1)) ∷ []) ≡ Piece 1 [] ∷ Open 1 ∷ Piece 1 (take 20 (associate_request ct1)) ∷ Piece 1 (drop 20 (associate_request ct1)) ∷ [])
 unfolding pdus_within first_pdu pdu_of associate_of fields_of request_of item_at pdv_at proposed_of user_information_of data_pdu_of successive_parts institution_routed has_route joins built_in class_of
     without_spaces without_leading without_trailing kept_before messages_from
-own_events = (refl, refl)
+without_a_message = (refl, refl, refl, refl, refl, refl, refl, refl, refl, refl, refl, refl, refl, refl, refl, refl, refl, refl, refl)
 
 -- an order for an institution that is not configured
 orders : replies (two 4) [] (Schedule (codes "EAST") [] ∷ Withdraw (codes "EAST") [] ∷ []) ≡ Refused 6 ∷ Refused 6 ∷ []

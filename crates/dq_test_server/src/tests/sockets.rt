@@ -1,7 +1,7 @@
 //! Connections over sockets, and when they are given up, by a clock that is set.
 use dq_wires::{GivesUp, Limits, Progress, ReadTurn, Reason, SocketWires, WireFault, Wires};
 use std::cell::Cell;
-use std::io::{self, Write};
+use std::io::{self, Read, Write};
 use std::net::{Ipv4Addr, SocketAddr, TcpStream};
 use std::test::Fail;
 use std::time::{Clock, Duration};
@@ -126,6 +126,28 @@ fn who_takes_no_last_pdu_is_given_up(rt: HostRuntime) -> Result<(), Fail> {
     pass(&mut wires, &clock, 1)?;
     assert_eq!(rt; wires.write(0, &ABORT), Err(WireFault));
     assert!(rt; reason_at(&wires, 0) == Some(Reason::Artim));
+    Ok(())
+}
+
+/// What was sent last reaches a peer that goes on sending (RFC 9112 section 9.6). Its place is free.
+#[test]
+fn who_goes_on_sending_gets_the_last_answer(rt: HostRuntime) -> Result<(), Fail> {
+    let mut wires = listen(&rt, Limits::default())?;
+    let mut peer = TcpStream::connect(&rt, wires.address()?)?;
+    assert_eq!(rt; wires.accept(), Ok(Some(0)));
+    peer.write_all(&[0; 100])?;
+    assert_eq!(rt; wires.write(0, &ABORT), Ok(10));
+    assert_eq!(rt; wires.shut(0), Ok(()));
+    for _ in 0..3 {
+        peer.write_all(&[0; 100])?;
+        wires.rest(&rt, Duration::from_millis(20))?;
+    }
+    let mut answer = [0; 16];
+    assert_eq!(rt; peer.read(&mut answer)?, 10);
+    assert_eq!(rt; peer.read(&mut answer)?, 0);
+    let _other = TcpStream::connect(&rt, wires.address()?)?;
+    wires.rest(&rt, Duration::from_secs(5))?;
+    assert_eq!(rt; wires.accept(), Ok(Some(0)));
     Ok(())
 }
 

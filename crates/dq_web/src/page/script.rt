@@ -37,7 +37,8 @@ const CHARACTER_SET = \"00080005\";
 const KEPT = [MODALITY, STATION, DATE], NOT_COPIED = [STEP_ID, PROCEDURE_ID, STUDY, ACCESSION, \"00081110\"];
 
 // Lists: the path, in which tags stand for values of the opened row; the attribute that each field of the search asks for; 1 if what is
-// found is put in the order of the first column, -1 for newest first; and the columns with their tags.
+// found is put in the order of the first column, -1 for newest first; the unique key after which the server can begin; and the columns
+// with their tags.
 const PATIENT = [[\"Patient\", NAME], [\"ID\", ID]];
 const PATIENT_KEYS = { name: NAME, id: ID, accession: ACCESSION };
 const LISTS = {
@@ -61,6 +62,7 @@ const LISTS = {
     path: \"rs/studies\",
     keys: { ...PATIENT_KEYS, modality: \"00080061\", day: \"00080020\" },
     order: -1,
+    unique: STUDY,
     below: \"series\",
     columns: [[\"Date\", \"00080020\", \"00080030\"], ...PATIENT, [\"Accession\", ACCESSION], [\"Modalities\", \"00080061\"],
       [\"Description\", \"00081030\"], [\"Series\", \"00201206\"], [\"Instances\", \"00201208\"]],
@@ -68,6 +70,7 @@ const LISTS = {
   series: {
     title: \"Series of a study\",
     path: `rs/studies/${STUDY}/series`,
+    unique: \"0020000E\",
     below: \"images\",
     columns: [[\"Number\", \"00200011\"], [\"Modality\", MODALITY], [\"Date\", \"00080021\", \"00080031\"], [\"Body part\", \"00180015\"],
       [\"Description\", \"0008103E\"], [\"Instances\", \"00201209\"], [\"UID\", \"0020000E\"]],
@@ -75,6 +78,7 @@ const LISTS = {
   images: {
     title: \"Images of a series\",
     path: `rs/studies/${STUDY}/series/0020000E/instances`,
+    unique: \"00080018\",
     columns: [[\"Number\", \"00200013\"], [\"Date\", \"00080023\", \"00080033\"], [\"Type\", \"00080008\"], [\"Rows\", \"00280010\"],
       [\"Columns\", \"00280011\"], [\"SOP class\", \"00080016\"], [\"UID\", \"00080018\"]],
   },
@@ -197,10 +201,12 @@ function searchKeys({ list, search }) {
   return Object.entries(LISTS[list].keys ?? {}).map(([field, tag]) => [tag, search[field]]).filter(([, key]) => key);
 }
 
-// The path of some rows of a view.
-function rowsPath(view, limit, offset) {
+// The path of some rows of a view, behind so many of which this is the last. The server finds rows after a key at once, and walks over
+// those of an offset.
+function rowsPath(view, limit, offset, last) {
   const path = LISTS[view.list].path.replace(/\\d{7}[DE]/g, tag => encodeURIComponent(textOf(view.above, tag)));
-  const words = [[\"limit\", limit], [\"offset\", offset], ...searchKeys(view)].map(([name, value]) => `${name}=${encodeURIComponent(value)}`);
+  const { unique } = LISTS[view.list], start = unique && last ? [\"after\", textOf(last, unique)] : [\"offset\", offset];
+  const words = [[\"limit\", limit], start, ...searchKeys(view)].map(([name, value]) => `${name}=${encodeURIComponent(value)}`);
   return `${path}?${words.join(\"&\")}`;
 }
 
@@ -210,7 +216,7 @@ async function askInOrder(view) {
   const { order, columns: [[, ...tags]] } = LISTS[view.list], rows = [];
   let part = {};
   do {
-    part = await askRows(rowsPath(view, LONGEST, rows.length));
+    part = await askRows(rowsPath(view, LONGEST, rows.length, rows.at(-1)));
     rows.push(...part.rows);
   } while (part.isFull && rows.length < MOST);
   const found = rows.filter(row => searchKeys(view).every(([tag]) => textOf(row, tag)));
@@ -221,12 +227,12 @@ async function askInOrder(view) {
 // The rows of the page that a view shows, whether there is another, and of how many they are. Lists that nobody searches stay in the
 // order of the server, but for the worklist.
 async function askPage(view) {
-  const { list, offset } = view;
+  const { list, offset, last } = view;
   if (list === \"worklist\" || searchKeys(view).length) {
     const { all, of } = await askInOrder(view);
     return { rows: all.slice(offset, offset + PAGE), isMore: all.length > offset + PAGE, of };
   }
-  const { rows, isFull } = await askRows(rowsPath(view, PAGE + 1, offset));
+  const { rows, isFull } = await askRows(rowsPath(view, PAGE + 1, offset, last));
   return { rows: rows.slice(0, PAGE), isMore: isFull, of: \"\" };
 }
 
@@ -246,6 +252,7 @@ function load() {
 function showPage(view, { rows, isMore, of }) {
   const { title, keys } = LISTS[view.list], text = JSON.stringify([views.length, view.list, rows]);
   view.end = view.offset + rows.length;
+  view.next = rows.at(-1) ?? view.last;
   say($(\"range\"), rows.length ? `${view.offset + 1} to ${view.end}${of}` : \"Nothing found\");
   $(\"back\").disabled = view.offset === 0;
   $(\"next\").disabled = !isMore;
@@ -304,14 +311,14 @@ function go(move) {
 
 // Goes on behind the rows that are shown, which may be fewer than PAGE. Until the next ones are, pressing again changes nothing.
 function goNext() {
-  const view = views.at(-1), { offset, end = offset } = view;
-  if (end > offset) view.earlier.push(offset);
-  go(() => view.offset = end);
+  const view = views.at(-1), { offset, last, end = offset, next } = view;
+  if (end > offset) view.earlier.push({ offset, last });
+  go(() => Object.assign(view, { offset: end, last: next }));
 }
 
 function goBack() {
   const view = views.at(-1);
-  go(() => view.offset = view.earlier.pop() ?? 0);
+  go(() => Object.assign(view, view.earlier.pop() ?? { offset: 0, last: undefined }));
 }
 
 function select(tab) {

@@ -394,8 +394,11 @@ impl SocketConnection {
         }
     }
 
-    /// Sends no more.
-    pub(crate) fn end(&self) -> Result<(), WireFault> {
-        self.socket.end().or(Err(WireFault))
+    /// Sends no more. The answer is its socket.
+    pub(crate) fn end(self) -> Result<Socket, WireFault>
+        ensures { IfOk result (λ socket. socket ≡ self.socket) }
+    {
+        self.socket.end().or(Err(WireFault))?;
+        Ok(self.socket)
     }
 }

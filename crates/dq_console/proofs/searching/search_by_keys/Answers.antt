@@ -6,6 +6,11 @@ pub returns-in_err-keys-clause-cut : goal.returns-in_err-keys-clause-cut
 returns-in_err-keys-clause-cut g c =
     if_error _ c.from_residual.result _ c.from_residual.ensures.1 (_, c.looks_are_one_look.ensures.no_look _, refl)
 
+pub returns-in_err-kind-clause-cut : goal.returns-in_err-kind-clause-cut
+returns-in_err-kind-clause-cut g c =
+    if_error _ c.from_residual-in_err-kind.result _ c.from_residual-in_err-kind.ensures.1
+    (_, c.looks_are_one_look.ensures.no_look _, refl)
+
 pub returns-in_err-look-clause-cut : goal.returns-in_err-look-clause-cut
 returns-in_err-look-clause-cut g c =
     if_error _ c.from_residual-in_err-look.result _ c.from_residual-in_err-look.ensures.1

@@ -12,14 +12,7 @@ returns-clause-history c = λ institutions rows events number i formed owned. re
       (λ institution kept message syntax sound succeeds.
       let told = c.answers_are_the_matching_records_in_order-2.ensures.succeeded institution kept message syntax sound.rising succeeds in
       (told.0.keys, told.0.optional, told.1, told.2))
-      (record {
-        storing = c.services_keep_rows_sound.ensures.storing;
-        creating = c.services_keep_rows_sound.ensures.creating;
-        changing = c.services_keep_rows_sound.ensures.changing;
-        scheduling = c.services_keep_rows_sound.ensures.scheduling;
-        withdrawing = c.services_keep_rows_sound.ensures.withdrawing;
-      })
-      c.own_records_are_edited.ensures.one institutions rows events number i;
+      c.services_keep_rows_sound.ensures c.own_records_are_edited.ensures.one institutions rows events number i;
 }
 
 pub returns-clause-at_each_event : goal.returns-clause-at_each_event
@@ -39,13 +32,6 @@ returns-clause-exact c = λ institutions rows events given kept number i run for
       (λ institution records message syntax fit succeeds.
       let told = c.answers_are_the_matching_records_in_order-2.ensures.succeeded institution records message syntax fit.rising succeeds in
       (told.0.keys, told.0.optional, told.1, told.2))
-      (record {
-        storing = c.services_keep_rows_sound.ensures.storing;
-        creating = c.services_keep_rows_sound.ensures.creating;
-        changing = c.services_keep_rows_sound.ensures.changing;
-        scheduling = c.services_keep_rows_sound.ensures.scheduling;
-        withdrawing = c.services_keep_rows_sound.ensures.withdrawing;
-      })
-      c.own_records_are_edited.ensures.one institutions rows (take (length given) events) number i sound
+      c.services_keep_rows_sound.ensures c.own_records_are_edited.ensures.one institutions rows (take (length given) events) number i sound
       (each-taken BringsOctets (length given) events brings);
 }

@@ -7,11 +7,4 @@ returns-clause-message c = truly-told c.the_status_says_what_stands.ensures.whol
 pub returns-clause-history : goal.returns-clause-history
 returns-clause-history c = λ institutions rows events number i brings made.
     history-told c.the_status_says_what_stands.ensures.whole c.the_status_says_what_stands.ensures.discarded
-    (record {
-      storing = c.services_keep_rows_as_made.ensures.storing;
-      creating = c.services_keep_rows_as_made.ensures.creating;
-      changing = c.services_keep_rows_as_made.ensures.changing;
-      scheduling = c.services_keep_rows_as_made.ensures.scheduling;
-      withdrawing = c.services_keep_rows_as_made.ensures.withdrawing;
-    })
-    c.own_records_are_edited.ensures.one institutions rows events number i brings made
+    c.services_keep_rows_as_made.ensures c.own_records_are_edited.ensures.one institutions rows events number i brings made

@@ -17,32 +17,26 @@ either-keeps : (row : Row) → (row.kind ≡ Entry) ⊎ (row.kind ≡ Step) → 
 either-keeps row (inl e) = entry-keeps row e
 either-keeps row (inr e) = step-keeps row e
 
-pub returns-clause-storing : goal.returns-clause-storing
-returns-clause-storing c = λ name limits rows message syntax are made. record {
-  sound = c.services_keep_rows_sound.ensures.storing name limits rows message syntax are made.sound;
-  levels = c.records_keep_to_their_levels.ensures name limits rows message syntax are made.levels;
-}
-
-pub returns-clause-creating : goal.returns-clause-creating
-returns-clause-creating c = λ name limits rows message syntax are made. record {
-  sound = c.services_keep_rows_sound.ensures.creating name limits rows message syntax are made.sound;
-  levels = c.rows_of_other_kinds_stay.ensures.created is_of_its_level either-keeps name limits rows message syntax made.sound.sound.rising made.levels;
-}
-
-pub returns-clause-changing : goal.returns-clause-changing
-returns-clause-changing c = λ name rows message syntax are made. record {
-  sound = c.services_keep_rows_sound.ensures.changing name rows message syntax are made.sound;
-  levels = c.rows_of_other_kinds_stay.ensures.changed is_of_its_level step-keeps name rows message syntax made.levels;
-}
-
-pub returns-clause-scheduling : goal.returns-clause-scheduling
-returns-clause-scheduling c = λ name limits rows octets are made. record {
-  sound = c.services_keep_rows_sound.ensures.scheduling name limits rows octets are made.sound;
-  levels = c.rows_of_other_kinds_stay-2.ensures.scheduled is_of_its_level entry-keeps name limits rows octets made.levels;
-}
-
-pub returns-clause-withdrawing : goal.returns-clause-withdrawing
-returns-clause-withdrawing c = λ name rows id made. record {
-  sound = c.services_keep_rows_sound.ensures.withdrawing name rows id made.sound;
-  levels = c.rows_of_other_kinds_stay-2.ensures.withdrawn is_of_its_level name rows id made.levels;
+pub returns : goal.returns
+returns c = record {
+  storing = λ name limits rows message syntax are made. record {
+    sound = c.services_keep_rows_sound.ensures.storing name limits rows message syntax are made.sound;
+    levels = c.records_keep_to_their_levels.ensures name limits rows message syntax are made.levels;
+  };
+  creating = λ name limits rows message syntax are made. record {
+    sound = c.services_keep_rows_sound.ensures.creating name limits rows message syntax are made.sound;
+    levels = c.rows_of_other_kinds_stay.ensures.created is_of_its_level either-keeps name limits rows message syntax made.sound.sound.rising made.levels;
+  };
+  changing = λ name rows message syntax are made. record {
+    sound = c.services_keep_rows_sound.ensures.changing name rows message syntax are made.sound;
+    levels = c.rows_of_other_kinds_stay.ensures.changed is_of_its_level step-keeps name rows message syntax made.levels;
+  };
+  scheduling = λ name limits rows octets are made. record {
+    sound = c.services_keep_rows_sound.ensures.scheduling name limits rows octets are made.sound;
+    levels = c.rows_of_other_kinds_stay-2.ensures.scheduled is_of_its_level entry-keeps name limits rows octets made.levels;
+  };
+  withdrawing = λ name rows id made. record {
+    sound = c.services_keep_rows_sound.ensures.withdrawing name rows id made.sound;
+    levels = c.rows_of_other_kinds_stay-2.ensures.withdrawn is_of_its_level name rows id made.levels;
+  };
 }

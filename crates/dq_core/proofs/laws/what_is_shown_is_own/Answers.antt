@@ -1,6 +1,7 @@
 use Rattle.dq_tables.specs.Rows.{Record}
 use Rattle.std.proofs.Common.{List}
-use Rattle.dq_core.specs.Showing.{found_in, found_page, steps_in, shown_page}
+use Rattle.dq_match.specs.ShownPages.{found_page, shown_page}
+use Rattle.dq_core.specs.Showing.{found_in, steps_in}
 use Rattle.dq_core.proofs.isolation.Showing.{shown-alone, shown-alike}
 use Rattle.dq_core.proofs.laws.what_is_shown_is_own.Goals as goal
 

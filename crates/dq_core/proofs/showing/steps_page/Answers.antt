@@ -7,8 +7,9 @@ use Rattle.dq_tables.specs.Lookups.{rows_of, records_of}
 use Rattle.dq_tables.specs.Records.{data_set_of}
 use Rattle.dq_tables.specs.Rows.{Record, of, row_of}
 use Rattle.dq_tables.proofs.OwnRows.{listed_own}
-use Rattle.dq_core.specs.declared.showing.ShownPage.{ShownPage}
-use Rattle.dq_core.specs.Showing.{shown_page, page_most, steps_in}
+use Rattle.dq_match.specs.declared.shown_page.ShownPage.{ShownPage}
+use Rattle.dq_match.specs.ShownPages.{shown_page, page_most}
+use Rattle.dq_core.specs.Showing.{steps_in}
 use Rattle.dq_core.proofs.showing.steps_page.Goals as goal
 
 abbrev of_row : Row → ElementList

@@ -4,7 +4,7 @@ use Rattle.dq_tables.proofs.TableCalls.{reads_nothing, reads_right}
 use Rattle.dq_archive.specs.PastArchives.{state_in, records_in}
 use Rattle.dq_find.specs.PartialAnswers.{PartialAnswers}
 use Rattle.dq_find.specs.LazyAnswers.{answers_then}
-use Rattle.dq_find.specs.Queries.{found_by}
+use Rattle.dq_find.specs.Queries.{answers_of_records, answers_behind, found_by}
 use Rattle.dq_find.proofs.lazy_answers.begin_at.Goals as goal
 
 pub returns-in-Err : goal.returns-in-Err
@@ -18,6 +18,7 @@ returns-in-Err g c =
     }
 
 pub returns : goal.returns
+unfolding answers_of_records answers_behind
 returns g c =
     let state = g.T.Tables.state in
     let it = c.args.archive.now in

@@ -16,7 +16,7 @@ returns g c =
     let own : records_in state past ≡ of c.args.institution.now.name (state c.args.tables.now).rows =
     records_now state c.args.tables.now c.args.institution.now past c.new-past.ensures.tables.now (ap (λ x. x.now) c.new-past.ensures.institution)
     (ap (λ x. x.now) c.new-past.ensures.later) in
-    let found : (state c.answers_to.new.archive.tables.now).honest
+    let found : (state c.all_answers.new.archive.tables.now).honest
     → query_outcome (of c.args.institution.now.name (state c.args.tables.now).rows) called (plain_message c.args.message.now) c.args.syntax ≡ c.in_ok-found.found =
     λ h. sym (c.in_ok-found.ensures.answered h ∙ (λ i. found_by (own i) called ((c.in_ok-asked.ensures.query ∙ ap identifier_query c.in_ok-identifier.ensures) i))) in
     grind (arith, serves_read)

@@ -1,6 +1,6 @@
 use Rattle.std.proofs.Common.{◌≡◌, ◌∙◌, IfOk, ap, arith}
 use Rattle.std.proofs.lemmas.Result.{IfOk-weaker}
-use Rattle.dq_match.specs.Answers.{found_part}
+use Rattle.dq_match.specs.ShownPages.{found_page}
 use Rattle.dq_tables.specs.Rows.{of}
 use Rattle.dq_archive.specs.PastArchives.{records_in}
 use Rattle.dq_archive.proofs.PastLookups.{records_now}
@@ -16,8 +16,8 @@ returns-clause-found g c =
     records_now state c.args.tables.now c.args.institution.now past c.new-kept.ensures.tables.now (ap (λ x. x.now) c.new-kept.ensures.institution)
     (ap (λ x. x.now) c.new-kept.ensures.later) in
     let found : (state c.answers_in_study.new.archive.tables.now).honest → IfOk c.answers_in_study.result (λ found. found
-    ≡ found_part c.args.from c.args.most (study_outcome (of c.args.institution.now.name (state c.args.tables.now).rows) c.args.identifier.now)) =
+    ≡ found_page c.args.page (study_outcome (of c.args.institution.now.name (state c.args.tables.now).rows) c.args.identifier.now)) =
     λ h. IfOk-weaker c.answers_in_study.result _ _
-    (λ found e. e ∙ (λ i. found_part c.args.from c.args.most (found_in_study (own i) (c.in_ok-asked.ensures.query i))))
+    (λ found e. e ∙ (λ i. found_page c.args.page (found_in_study (own i) (c.in_ok-asked.ensures.query i))))
     (c.answers_in_study.ensures.answered h) in
     grind arith

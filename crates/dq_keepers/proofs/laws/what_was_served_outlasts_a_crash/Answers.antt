@@ -19,10 +19,10 @@ part-found operations before after found Left part left = record {
 pub returns-clause-answered : goal.returns-clause-answered
 returns-clause-answered g c = λ rows first acts cut served settled clean image may opens finds.
     let left = c.what_a_crash_leaves_is_adopted.ensures in
-    let honest = rw c.into_tables.ensures at (left.honest clean) in
+    let honest = rw (c.into_inner.ensures, c.into_tables.ensures) at (left.honest clean) in
     ∥∥₁_map (left.adopted clean image may opens finds) (λ it. (
       it.0,
-      c.servings_settle.ensures.answered rows first c.args.server acts cut served honest settled it.0 (rw c.into_tables.ensures at it.1),
+      c.servings_settle.ensures.answered rows first c.args.server acts cut served honest settled it.0 (rw (c.into_inner.ensures, c.into_tables.ensures) at it.1),
       it.2,
       it.3,
     ))
@@ -30,11 +30,11 @@ returns-clause-answered g c = λ rows first acts cut served settled clean image 
 pub returns-clause-failed : goal.returns-clause-failed
 returns-clause-failed g c = λ rows first last acts cut event fault served fails settled clean image may opens finds.
     let left = c.what_a_crash_leaves_is_adopted.ensures in
-    let honest = rw c.into_tables.ensures at (left.honest clean) in
+    let honest = rw (c.into_inner.ensures, c.into_tables.ensures) at (left.honest clean) in
     let part = c.servings_settle.ensures.failed rows first last c.args.server acts cut event fault served fails honest settled in
     ∥∥₁_map (left.adopted clean image may opens finds) (λ it. (
       it.0,
-      part-found _ _ _ it.0 _ part (rw c.into_tables.ensures at it.1),
+      part-found _ _ _ it.0 _ part (rw (c.into_inner.ensures, c.into_tables.ensures) at it.1),
       it.2,
       it.3,
     ))

@@ -12,7 +12,7 @@ returns-in-Ok-close_store g c =
     let old = file_state c.in_ok-old.old in
     let left = c.copy_lent.new.old in (
       kept,
-      c.in-Ok-close_store.ensures,
+      rw c.new.ensures at c.in-Ok-close_store.ensures,
       λ is rows held. (left, λ clean. copied old (file_state left) c.in-Ok.ensures.stays clean rows kept names (c.in_ok-old.ensures Two rows is (held_now held.0 held.1)) c.in-Ok.ensures.rows),
       number,
     )

@@ -1,16 +1,18 @@
 use Rattle.sqlite.specs.Files.{file_state}
 use Rattle.dq_sql.specs.declared.version.Version.TheVariants.{Two}
-use Rattle.dq_keepers.proofs.Found.{adopted, both, held_now, reopened}
+use Rattle.dq_keepers.proofs.Found.{held_now, reopened}
 use Rattle.dq_keepers.proofs.stores.open_store.Goals as goal
 
 pub returns-clause-rows : goal.returns-clause-rows
-returns-clause-rows g c =
+returns-clause-rows g c = rw c.new.ensures (λ honest rows is held.
     let conn = c.in_ok-connect.field-0 in
-    adopted _ _ _ (file_state conn)
-    (λ rows is held clean. reopened (file_state conn) rows (c.in_ok-connect.ensures Two rows is (held_now held.0 held.1) clean))
-    c.adopt.result c.adopt.ensures.honest c.adopt.ensures.again
+    let it = c.in_ok-tables.ensures in
+    it.again rows (reopened (file_state conn) rows (c.in_ok-connect.ensures Two rows is (held_now held.0 held.1) (it.honest honest))) honest)
 
 pub returns-clause-sound : goal.returns-clause-sound
-returns-clause-sound g c =
-    both _ _ _ (λ t found octets honest. c.rows_stay_sound.ensures.of_octets _ (found honest).sound octets)
-    c.adopt.result c.adopt.ensures.found c.adopt.ensures.octets
+returns-clause-sound g c = rw c.new.ensures (λ honest.
+    let it = c.in_ok-tables.ensures in
+    c.rows_stay_sound.ensures.of_octets _ (it.found honest).sound it.octets)
+
+pub returns-clause-settled : goal.returns-clause-settled
+returns-clause-settled g c = rw c.new.ensures c.in_ok-tables.ensures.settled

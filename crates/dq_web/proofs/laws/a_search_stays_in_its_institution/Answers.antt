@@ -11,6 +11,6 @@ returns c guard request question search asked is =
     let at = asked.let_in in
     let it = searches asked.aim.method asked.aim.resource asked.aim.query.now request.head.fields.body_form request.body.now question.asked search asked.asks is in
     let below = IsSearchAt-path asked.aim.resource at.aimed.path it.0 at.aimed.at_resource it.1 in
-    let same = TakesWords-institution (words_in asked.aim.query.now) it.0 search it.2 in
+    let same = TakesWords-institution (words_in it.0.subject asked.aim.query.now) it.0 search it.2 in
     let path = below.1 ∙ ap (λ (name : List ℕ). codes "/" ++ beneath name below.0) (sym same) in
     (below.0, (at.host, asked.aim.query.now, subst (λ (path : List ℕ). IsAt request.head at.host path asked.aim.query.now) path at.aimed.at_path))

@@ -13,16 +13,16 @@ returns-then-not-branch c =
     let road = YieldsList-from_str_split 38 c.args.query.now (lit< tt) (cc) (cc) (cc) in
     let so_far = YieldsList-so_far road c.loop-part.yielded _ c.loop-part.yielded_by in
     let turn = YieldsList-turn road c.loop-part.yielded _ c.loop-part.yielded_by _ _ c.in-Some.part c.in-Some.is c.next.ensures.steps in
-    let taken = subst (λ (parts : List (List ℕ)). TakesWords (words_among parts) c.args.search.now c.loop-part.search) so_far c.loop-part.invariant in
-    StopsAt-part is_said (parts_of c.args.query.now) (length c.loop-part.yielded) c.in-Some.part.now c.args.search.now c.loop-part.search turn.0 turn.1 taken (rw no at c.in_ok-take_part.ensures)
+    let taken = subst (λ (parts : List (List ℕ)). TakesWords (words_among c.args.search.now.subject parts) c.args.search.now c.loop-part.search) so_far c.loop-part.invariant in
+    StopsAt-part (is_said c.args.search.now.subject) (parts_of c.args.query.now) (length c.loop-part.yielded) c.in-Some.part.now c.args.search.now c.loop-part.search turn.0 turn.1 taken (rw no at c.in_ok-take_part.ensures)
 
 pub loop-part-preserved : goal.loop-part-preserved
 loop-part-preserved c =
     let yes : c.in_ok-take_part.field-0 ≡ true = search rules in
-    let all = TakesWords-push is_said (map (λ (part : Bor (List ℕ)). part.now) c.loop-part.yielded) c.in-Some.part.now c.args.search.now c.loop-part.search c.take_part.new.search c.loop-part.invariant (rw yes at c.in_ok-take_part.ensures) in
+    let all = TakesWords-push (is_said c.args.search.now.subject) (map (λ (part : Bor (List ℕ)). part.now) c.loop-part.yielded) c.in-Some.part.now c.args.search.now c.loop-part.search c.take_part.new.search c.loop-part.invariant (rw yes at c.in_ok-take_part.ensures) in
     rw map-append all
 
 pub returns : goal.returns
 returns c =
     let turn = YieldsList-end (YieldsList-from_str_split 38 c.args.query.now (lit< tt) (cc) (cc) (cc)) c.loop-part.yielded _ c.loop-part.yielded_by _ _ c.in-None.is c.next.ensures.steps in
-    subst (λ (parts : List (List ℕ)). TakesWords (words_among parts) c.args.search.now c.loop-part.search) turn.0 c.loop-part.invariant
+    subst (λ (parts : List (List ℕ)). TakesWords (words_among c.args.search.now.subject parts) c.args.search.now c.loop-part.search) turn.0 c.loop-part.invariant

@@ -2,7 +2,7 @@ use Rattle.std.proofs.Common.{◌∙◌, subst, arith}
 use Rattle.sqlite.specs.State.{HasCleanDisk}
 use Rattle.sqlite.specs.Held.{state}
 use Rattle.dq_sql.specs.FirstRows.{IsFilled, IsNotMade}
-use Rattle.dq_sql.proofs.KeptRows.{stays_kept, still_counted}
+use Rattle.dq_sql.proofs.KeptRows.{stays_kept}
 use Rattle.dq_sql.proofs.CopiedTables.{same_rows, not_made}
 use Rattle.dq_sql.proofs.sql_tables.SqlTables.copy_to.Goals as goal
 
@@ -15,7 +15,6 @@ invariant_of-self g c =
     record {
       alone = stays.mode it.alone;
       keeps = stays_kept old new it.history.rows it.alone stays it.keeps;
-      counted = still_counted old new it.history.rows it.counts stays.survives it.counted;
     }
 
 pub returns-in-Ok-fill_store-clause-made : goal.returns-in-Ok-fill_store-clause-made

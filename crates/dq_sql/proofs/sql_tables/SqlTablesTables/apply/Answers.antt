@@ -3,7 +3,7 @@ use Rattle.std.proofs.Math.Logic.{∥∥₁_elim, ∥∥₁_map}
 use Rattle.sqlite.specs.State.{HasCleanDisk}
 use Rattle.sqlite.specs.Held.{state}
 use Rattle.dq_tables.specs.Rows.{after, operation_of}
-use Rattle.dq_sql.proofs.KeptRows.{rows_set, made_kept, made_settles, undone_kept, undone_leaves, still_counted, followed_counted}
+use Rattle.dq_sql.proofs.KeptRows.{rows_set, made_kept, made_settles, undone_kept, undone_leaves}
 use Rattle.dq_sql.proofs.sql_tables.SqlTablesTables.apply.Goals as goal
 
 pub invariant_of-self : goal.invariant_of-self
@@ -17,8 +17,6 @@ invariant_of-self g c =
           let before : HasCleanDisk old = omega (arith, c.commit.ensures.survives.clean) in
           made_kept old new it.history.rows c.args.change.now before (λ trees opened left. g.met.S.Store.settled c.commit.new.conn.store trees opened left)
           (c.requires before) (c.in-Ok.ensures.done clean) (k before)));
-      counted = rw c.then-self.ensures (followed_counted old new it.history.rows c.args.change.now it.counts c.follow.new.self c.commit.ensures.survives it.keeps
-          c.requires it.counted (c.follow.ensures it.history.rows));
     }
 
 pub invariant_of-self-in-Err : goal.invariant_of-self-in-Err
@@ -32,7 +30,6 @@ invariant_of-self-in-Err g c =
           let before : HasCleanDisk old = omega (arith, c.commit.ensures.survives.clean) in
           undone_kept old new it.history.rows c.args.change.now clean (c.requires before) (λ opened. c.in-Err.ensures.stays clean opened)
           c.commit.ensures.survives (k before));
-      counted = still_counted old new it.history.rows it.counts c.commit.ensures.survives it.counted;
     }
 
 pub returns-in-Ok : goal.returns-in-Ok

@@ -2,7 +2,7 @@ use Rattle.std.proofs.Common.{arith}
 use Rattle.sqlite.specs.State.{HasCleanDisk}
 use Rattle.sqlite.specs.Held.{state}
 use Rattle.dq_tables.specs.Lookups.{row_at}
-use Rattle.dq_sql.proofs.KeptRows.{row_set, if_ok, found_in, stays_kept, still_counted}
+use Rattle.dq_sql.proofs.KeptRows.{row_set, if_ok, found_in, stays_kept}
 use Rattle.dq_sql.proofs.sql_tables.SqlTablesTables.row.Goals as goal
 
 pub invariant_of-self : goal.invariant_of-self
@@ -12,7 +12,6 @@ invariant_of-self g c =
     record {
       alone = stays.mode it.alone;
       keeps = stays_kept (state g.S.Store it.conn) (state g.S.Store c.row-answer.new.conn) it.history.rows it.alone stays it.keeps;
-      counted = still_counted (state g.S.Store it.conn) (state g.S.Store c.row-answer.new.conn) it.history.rows it.counts stays.survives it.counted;
     }
 
 pub returns-clause-found : goal.returns-clause-found

@@ -1,0 +1,2 @@
+mod RightCounts
+pub mod RememberedCounts
