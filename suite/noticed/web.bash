@@ -3,7 +3,7 @@
 # the web front
 front=$top/suite/web
 passes 'the web front' "$front" "$right" page keys rights anew hospitals searches entries looks methods hosts viewers grammar slow many metrics backup
-for one in page keys rights anew hospitals searches entries looks methods hosts viewers grammar slow many metrics backup log proxies curl; do
+for one in page keys rights anew hospitals searches entries looks methods hosts viewers grammar slow many metrics backup log line memory proxies curl; do
     notices "the web front: stops_at_once: $one" "$one" "$front" "$stops_at_once" "$one"
 done
 notices 'a page of other octets' '/page.js' "$front" "$(server 'web-page-with:PAGE:LEAF')" page
@@ -41,6 +41,7 @@ notices 'refusals that are not counted' 'requests by kind and status' "$front" "
 notices 'turns that are not counted' 'turns that serve the web front' "$front" "$(server web-counts-no-turns)" metrics
 notices 'a backup of nothing' 'backup' "$front" "$(server web-copies-nothing)" backup
 notices 'a log without the web front' log "$front" "$(unheard --log-file 2)" log
+notices 'a log that has no line of a request' line "$front" "$(unheard --log-file 2)" line
 notices 'a log without proxies' 'proxies' "$front" "$(unheard --log-file 2)" proxies
 if command -v chromium > "$work/nothing"; then
     passes 'the page in a browser' env PATIENCE=20 "$front" "$right" lists items browser

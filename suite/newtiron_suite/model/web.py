@@ -147,7 +147,7 @@ class Page:
     are passed over, and how many are shown."""
     after: bytes | None = None
     offset: int = 0
-    limit: int = USUAL_PAGE
+    limit: int = dataclasses.field(default_factory=lambda: USUAL_PAGE)
 
 
 def take_page(page: Page, name: str, value: str, part: str) -> None:
