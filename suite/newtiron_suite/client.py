@@ -105,11 +105,11 @@ class Serving:
         text = pathlib.Path(f"/proc/{self.child.pid}/schedstat").read_text()
         return int(text.split()[0]) / 1e9
 
-    def memory(self) -> float:
-        """Its resident memory, in megabytes."""
+    def memory(self, field: str = "VmRSS") -> float:
+        """Its resident memory, in megabytes; as `VmHWM`, the most that it had."""
         status = pathlib.Path(f"/proc/{self.child.pid}/status").read_text()
         return int(next(line for line in status.split("\n")
-                        if line.startswith("VmRSS:")).split()[1]) / 1024
+                        if line.startswith(f"{field}:")).split()[1]) / 1024
 
     def descriptors(self) -> int:
         return sum(1 for _ in pathlib.Path(f"/proc/{self.child.pid}/fd").iterdir())

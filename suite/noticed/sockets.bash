@@ -6,7 +6,10 @@ sockets=$top/suite/sockets
 passes 'sockets' "$sockets" "$right" captures=echo_dcmtk,two_hospitals loopback=two_hospitals many resets half deaf exits console \
     file repeats listen browser artim peers
 passes 'callers of the console' "$sockets" "$right" callers
-for one in captures=echo_dcmtk histories pages many shares deaf resets half long=1000000 stops=1 repeats idle listen console file callers \
+passes 'between pages' env PATIENCE=20 "$sockets" "$right" between
+notices 'pages that are found anew' 'images: what was there when it began' env PATIENCE=20 "$sockets" \
+    "$(server pages-found-anew)" between=images
+for one in captures=echo_dcmtk histories pages between many shares deaf resets half long=1000000 stops=1 repeats idle listen console file callers \
     browser artim peers quiet log; do
     notices "sockets: stops_at_once: $one" "${one%=*}" "$sockets" "$stops_at_once" $one
     notices "a server that stops: $one" '' "$sockets" "$(server "socket-stops-at:$([ $one = listen ] && echo 1 || echo 3)")" $one

@@ -3,7 +3,8 @@
 # the web front
 front=$top/suite/web
 passes 'the web front' "$front" "$right" page keys rights anew hospitals searches entries looks methods hosts viewers grammar slow many metrics backup
-for one in page keys rights anew hospitals searches entries looks methods hosts viewers grammar slow many metrics backup log line memory proxies curl; do
+passes 'pages of the web front' env PATIENCE=60 "$front" "$right" arrays pages
+for one in page keys rights anew hospitals searches entries arrays pages peaks looks methods hosts viewers grammar slow many metrics backup log line memory proxies curl; do
     notices "the web front: stops_at_once: $one" "$one" "$front" "$stops_at_once" "$one"
 done
 notices 'a page of other octets' '/page.js' "$front" "$(server 'web-page-with:PAGE:LEAF')" page
@@ -17,8 +18,16 @@ notices 'two hospitals that share rows, over HTTP' 'both are filled alike' "$fro
 notices 'pages of another length' 'a hundred studies' "$front" "$(server web-pages-of:99)" searches
 notices 'a key of searches that is not met' 'a search' "$front" "$(server key-not-met:0010,0020)" searches
 notices 'a refusal that is told as done' 'an entry that is the same again' "$front" "$(server web-refuses-as:201)" entries
-notices 'pages of any length' 'large entries come once each' "$front" "$(server web-arrays-of:99999999)" entries
-notices 'a page that does not say that it is cut' 'large entries come once each' "$front" "$(server web-tells-no-rest)" entries
+notices 'arrays of any length' 'large items come once each' env PATIENCE=60 "$front" "$(server web-arrays-of:99999999)" arrays
+notices 'a page that does not say that it is cut' 'large items come once each' env PATIENCE=60 "$front" \
+    "$(server web-tells-no-rest)" arrays
+notices 'data sets of any length' 'steps: rows of spaces come once each' env PATIENCE=60 "$front" \
+    "$(server web-fills-pages-with:99999999)" pages
+notices 'a page that does not say that it is filled' 'worklist: rows of spaces come once each' env PATIENCE=60 "$front" \
+    "$(server web-is-filled-by-count)" pages
+# (the model's server holds all rows)
+notices 'pages that take the memory of all rows' 'the memory of pages of steps does not grow' env PATIENCE=60 "$front" \
+    "$right" peaks
 notices 'an entry that is not kept' 'entries' "$front" "$(server socket-forgets)" entries
 notices 'JSON that is no entry' 'JSON, plain' "$front" "$(server web-reads-no-json)" entries
 notices 'a place that is not told' 'the place of what is wrong' "$front" "$(server web-tells-no-place)" entries

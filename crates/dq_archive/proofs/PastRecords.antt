@@ -15,7 +15,7 @@ use Rattle.dq_tables.specs.declared.row.Kind.TheVariants.{Study}
 use Rattle.dq_tables.specs.declared.row.Row.{Row}
 use Rattle.dq_tables.specs.Rows.{Record, octet_order, record_of, row_of}
 use Rattle.dq_tables.specs.StudyChoices.{is_chosen, studies_among}
-use Rattle.dq_tables.specs.Lookups.{same_kind, record_at, records_of, records_above, records_after}
+use Rattle.dq_tables.specs.Lookups.{same_kind, record_at, records_of, records_above, records_after, records_behind}
 use Rattle.dq_tables.specs.Records.{AreInOrder}
 use Rattle.dq_tables.proofs.RecordLists.{one_kind, its_kind, in_order_filter}
 use Rattle.dq_tables.proofs.Order.{each_filtered, each_passed, each_weaker, filter_all, both_tests}
@@ -50,6 +50,11 @@ module _ (later : List Addition) where
   left_after kind key records =
       swapped (stays later) (λ (r : Record). is_gt (octet_order r.key key)) (records_of kind records)
       ∙ ap (filter (λ (r : Record). is_gt (octet_order r.key key))) (left_of_kind kind records)
+
+  pub left_behind : (after : Option (List ℕ)) (records : List Record) → without later (records_behind after records) ≡ records_behind after (without later records)
+  unfolding without
+  left_behind None records = refl
+  left_behind (Some key) records = swapped (stays later) (λ (r : Record). is_gt (octet_order r.key key)) records
 
   pub left_chosen : (choice : Choice) (records : List Record) → without later (studies_among choice records) ≡ studies_among choice (without later records)
   unfolding without studies_among
@@ -231,6 +236,15 @@ unfolding records_after
 are_of_after kind key records =
     each_filtered (λ (r : Record). same_kind r.kind kind ≡ true) (λ (r : Record). is_gt (octet_order r.key key)) (records_of kind records) (are_of kind records)
 
+pub are_of_above : (kind : Kind) (above : List ℕ) (records : List Record) → AreOf kind (records_above kind above records)
+unfolding records_above
+are_of_above kind above records =
+    each_filtered (λ (r : Record). same_kind r.kind kind ≡ true) (λ (r : Record). bytes_eq r.above above) (records_of kind records) (are_of kind records)
+
+pub are_of_behind : (kind : Kind) (after : Option (List ℕ)) (rs : List Record) → AreOf kind rs → AreOf kind (records_behind after rs)
+are_of_behind kind None rs each = each
+are_of_behind kind (Some key) rs each = each_filtered (λ (r : Record). same_kind r.kind kind ≡ true) (λ (r : Record). is_gt (octet_order r.key key)) rs each
+
 module _ (kind : Kind) (later : List Addition) (rs : List Record) (of : AreOf kind rs) where
   pub first_of_kind : (m n : ℕ) → n ≡ m + length (of_kind kind later) → AreInOrder rs → take m (without later rs) ≡ take m (without later (take n rs))
   first_of_kind m n e ordered =
@@ -255,3 +269,7 @@ module _ (kind : Kind) (later : List Addition) (rs : List Record) (of : AreOf ki
 pub after_in_order : (kind : Kind) (records : List Record) (key : List ℕ) → AreInOrder (records_of kind records) → AreInOrder (records_after kind key records)
 unfolding records_after
 after_in_order kind records key ordered = in_order_filter (λ (r : Record). is_gt (octet_order r.key key)) (records_of kind records) ordered
+
+pub behind_in_order : (after : Option (List ℕ)) (rs : List Record) → AreInOrder rs → AreInOrder (records_behind after rs)
+behind_in_order None rs ordered = ordered
+behind_in_order (Some key) rs ordered = in_order_filter (λ (r : Record). is_gt (octet_order r.key key)) rs ordered

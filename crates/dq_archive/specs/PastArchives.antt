@@ -1,6 +1,6 @@
 -- Lookups in an archive as it was. They follow from the records that its institution had then:
 -- those that it has now, but for those that were added later.
-use Rattle.std.specs.Prelude.{◌≡◌, List, Result, IfOk}
+use Rattle.std.specs.Prelude.{◌≡◌, List, Option, Result, IfOk, IfSome}
 use Rattle.std.specs.Borrow.{MutBor}
 use Rattle.dq_tables.specs.declared.fault.TableFault.{TableFault}
 use Rattle.dq_tables.specs.Rows.{Record, of}
@@ -35,3 +35,11 @@ pub record QueriesOnly {T : Type 0} {Answer : Type 0} (state : T → State) (old
   pub reads : Reads (state_in state old) (state_in state new) result
   pub answered : (state_in state new).honest
       → IfOk result (λ answer. answer ≡ look (records_in state old))
+
+-- A lookup that need not have an answer: where it has one, that follows from these records. Nothing changes.
+pub record QueriesFew {T : Type 0} {Answer : Type 0} (state : T → State) (old new : Past T)
+    (look : List Record → Answer) (result : Result (Option Answer) TableFault) : Type 0 where
+  pub same : IsSame old new
+  pub reads : Reads (state_in state old) (state_in state new) result
+  pub answered : (state_in state new).honest
+      → IfOk result (λ few. IfSome few (λ answer. answer ≡ look (records_in state old)))

@@ -1,7 +1,8 @@
 //! One institution's part of the rows that tables keep.
-ghost use Rattle.std.specs.Prelude.{◌≡◌, is_some, length, map, option_map, OnOk};
+ghost use Rattle.std.specs.Prelude.{◌≡◌, is_some, length, map, option_map, take, OnOk};
+ghost use Rattle.std.specs.Option.{option_copied};
 ghost use Rattle.dq_tables.specs.Rows.{row_of};
-ghost use Rattle.dq_tables.specs.Lookups.{record_at, records_of, waiting_among};
+ghost use Rattle.dq_tables.specs.Lookups.{record_at, records_of, records_behind, waiting_among};
 ghost use Rattle.dq_tables.specs.ServiceEffects.{Serves};
 ghost use Rattle.dq_archive.specs.Archives.{IsOver, IsSame, state_in, QueriesOnly};
 ghost use Rattle.dq_archive.specs.Decisions.{answer_and_edits, IsOwn, FitsIf};
@@ -65,14 +66,20 @@ impl<'a, T: Tables> Archive<'a, T> {
         self.tables.count(kind, name)
     }
 
-    /// The worklist entries that wait, as rows: no performed procedure step has started them (PS3.4
-    /// section K.6.1.2).
-    pub fn waiting(&mut self) -> Result<Listed<Row>, TableFault>
+    /// The worklist entries that wait, as rows in the order of their keys: no performed procedure step has
+    /// started them (PS3.4 section K.6.1.2). Those with keys behind a key, or all without a key, at most so
+    /// many.
+    pub fn waiting_after(
+        &mut self,
+        after: Option<&[u8]>,
+        most: usize,
+    ) -> Result<Listed<Row>, TableFault>
         ensures { QueriesOnly T.state self.old self.new (λ records.
-            map (row_of self.old.institution.now.name) (waiting_among records)) result }
+            map (row_of self.old.institution.now.name)
+            (take most (records_behind (option_copied after.entry) (waiting_among records)))) result }
     {
         let name = self.institution.name.as_slice();
-        self.tables.waiting(name)
+        self.tables.waiting_after(name, after, most)
     }
 
     /// Makes the change of a decision, whole or not at all, and gives the answer. The records of

@@ -1,10 +1,12 @@
 //! An archive as it was.
-ghost use Rattle.std.specs.Prelude.{◌≡◌, length, take, drop, map, option_map};
+ghost use Rattle.std.specs.Prelude.{◌≡◌, ◌≤◌, None, IfOk, length, take, drop, map, option_map};
+ghost use Rattle.std.specs.Option.{option_copied};
+ghost use Rattle.dq_tables.specs.declared.row.Kind.TheVariants.{Study};
 ghost use Rattle.dq_tables.specs.Rows.{row_of};
-ghost use Rattle.dq_tables.specs.Lookups.{record_at, records_of, records_above, records_after};
+ghost use Rattle.dq_tables.specs.Lookups.{record_at, records_of, records_above, records_after, records_behind, rows_of};
 ghost use Rattle.dq_tables.specs.StudyChoices.{studies_among};
 ghost use Rattle.dq_archive.specs.Additions.{unless_later};
-ghost use Rattle.dq_archive.specs.PastArchives.{IsOver, QueriesOnly};
+ghost use Rattle.dq_archive.specs.PastArchives.{IsOver, QueriesOnly, QueriesFew, state_in};
 
 use crate::additions::{Addition, before, count_of, is_later, is_touched};
 use dq_config::Institution;
@@ -122,6 +124,32 @@ impl<'a, T: Tables> Past<'a, T> {
         Ok(before(self.alloc, self.later, rows)?)
     }
 
+    /// Those of them with keys behind a key, or all without a key, at most so many.
+    pub fn rows_above_after(
+        &mut self,
+        kind: Kind,
+        above: &[u8],
+        after: Option<&[u8]>,
+        most: usize,
+    ) -> Result<Listed<Row>, TableFault>
+        ensures { QueriesOnly T.state self.old self.new (λ records.
+            map (row_of self.old.institution.now.name) (take most
+            (records_behind (option_copied after.entry) (records_above kind above.now records)))) result }
+    {
+        honest_rows_are_sound::<T>();
+        let name = self.institution.name.as_slice();
+        let added = count_of(self.later, kind);
+        if added == 0 {
+            return self.tables.rows_above_after(kind, name, above, after, most);
+        }
+        let Some(all) = most.checked_add(added) else {
+            return Err(TableFault::NoMemory);
+        };
+        let rows = self.tables.rows_above_after(kind, name, above, after, all)?;
+        let rows = before(self.alloc, self.later, rows)?;
+        Ok(cut(rows, 0, most))
+    }
+
     /// Counts the institution's records of a kind under the record with the key `above`.
     pub fn count_above(&mut self, kind: Kind, above: &[u8]) -> Result<u64, TableFault>
         ensures { QueriesOnly T.state self.old self.new
@@ -135,15 +163,24 @@ impl<'a, T: Tables> Past<'a, T> {
         Ok(rows.len() as u64)
     }
 
-    /// The studies that a choice takes, as rows in the order of their keys.
-    pub fn studies_in(&mut self, choice: &Choice) -> Result<Listed<Row>, TableFault>
-        ensures { QueriesOnly T.state self.old self.new (λ records.
+    /// The studies that a choice takes, as rows in the order of their keys. There may be no answer where the
+    /// institution has so many studies or more.
+    pub fn few_studies_in(
+        &mut self,
+        choice: &Choice,
+        many: usize,
+    ) -> Result<Option<Listed<Row>>, TableFault>
+        ensures few { QueriesFew T.state self.old self.new (λ records.
             map (row_of self.old.institution.now.name)
             (studies_among choice.now records)) result }
+        ensures many { (state_in T.state self.new).honest → IfOk result (λ few. few ≡ None
+            → many ≤ length (rows_of Study self.old.institution.now.name (state_in T.state self.old).rows)) }
     {
         let name = self.institution.name.as_slice();
-        let rows = self.tables.studies_in(name, choice)?;
-        Ok(before(self.alloc, self.later, rows)?)
+        match self.tables.few_studies_in(name, choice, many)? {
+            Some(rows) => Ok(Some(before(self.alloc, self.later, rows)?)),
+            None => Ok(None),
+        }
     }
 
     /// A row that was looked up, unless it was added later.

@@ -19,3 +19,4 @@ pub mod Turning
 pub mod Noting
 pub mod Taking
 pub mod Looking
+mod StepPages

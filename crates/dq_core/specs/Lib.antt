@@ -24,6 +24,7 @@ pub mod Slots
 pub mod ServerView
 pub mod Looking
 pub mod Showing
+pub mod StepReads
 pub mod Examples
 pub mod Soundness
 pub mod Stores

@@ -89,16 +89,34 @@ impl<T: Tables> Tables for CountedTables<T> {
         self.tables.rows_above(kind, institution, above)
     }
 
-    fn studies_in(
+    fn rows_above_after(
+        &mut self,
+        kind: Kind,
+        institution: &[u8],
+        above: &[u8],
+        after: Option<&[u8]>,
+        most: usize,
+    ) -> Result<Listed<Row>, TableFault> {
+        self.tables
+            .rows_above_after(kind, institution, above, after, most)
+    }
+
+    fn few_studies_in(
         &mut self,
         institution: &[u8],
         choice: &Choice,
-    ) -> Result<Listed<Row>, TableFault> {
-        self.tables.studies_in(institution, choice)
+        many: usize,
+    ) -> Result<Option<Listed<Row>>, TableFault> {
+        self.tables.few_studies_in(institution, choice, many)
     }
 
-    fn waiting(&mut self, institution: &[u8]) -> Result<Listed<Row>, TableFault> {
-        self.tables.waiting(institution)
+    fn waiting_after(
+        &mut self,
+        institution: &[u8],
+        after: Option<&[u8]>,
+        most: usize,
+    ) -> Result<Listed<Row>, TableFault> {
+        self.tables.waiting_after(institution, after, most)
     }
 
     fn count(&mut self, kind: Kind, institution: &[u8]) -> Result<u64, TableFault> {

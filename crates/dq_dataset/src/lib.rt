@@ -22,7 +22,7 @@ pub use data_set_reader::read;
 pub use fault::ReadFault;
 pub use header::Syntax;
 pub use lending::{Elements, Lent};
-pub use measuring::can_be_written;
+pub use measuring::{can_be_written, elements_length};
 pub use packed::PackedDataSet;
 pub use sieve::{KEPT_LIMIT, Sieve, Sifted};
 pub use writing::write;

@@ -2,12 +2,13 @@
 use Rattle.std.proofs.Common.{◌≡◌, ℕ, Bool, true, false, not, ◌&&◌, List, [], ◌∷◌, Option, Some, None, is_some, unwrap_or, Result, Ok, Err, refl, sym, ap, ◌∙◌, arith}
 use Rattle.std.specs.Str.{bytes_eq}
 use Rattle.std.specs.List.{AllByRecursion, list_any}
-use Rattle.std.proofs.lemmas.Bool.{and_parts}
+use Rattle.std.proofs.lemmas.Bool.{and_parts, not-true}
 use Rattle.std.proofs.lemmas.Slice.Eq.{bytes_eq-Decides}
 use Rattle.dq_list.specs.Among.{IsAmong}
 use Rattle.dq_vr.specs.declared.Tag.{Tag}
 use Rattle.dq_vr.specs.declared.Vr.TheVariants.{UI}
 use Rattle.dq_vr.specs.Tags as tags
+use Rattle.dq_value.specs.Trimming.{is_padded}
 use Rattle.dq_value.specs.Uid.{is_uid}
 use Rattle.dq_dataset.specs.declared.fault.ReadFault.{ReadFault}
 use Rattle.dq_dataset.specs.declared.header.Syntax.TheVariants.{Explicit}
@@ -20,7 +21,9 @@ use Rattle.dq_match.specs.declared.keys.Nesting.TheVariants.{Outer}
 use Rattle.dq_match.specs.Keys.{is_tag}
 use Rattle.dq_match.specs.StandardMatching.{EachIsMet}
 use Rattle.dq_match.specs.Matching.{fits}
+use Rattle.dq_match.specs.Values.{matching_of}
 use Rattle.dq_match.specs.Wildcards.{any_run}
+use Rattle.dq_match.proofs.OneValue.{is_met_by}
 use Rattle.dq_tables.specs.declared.row.Row.{Row}
 use Rattle.dq_tables.specs.declared.row.Kind.{Kind}
 use Rattle.dq_tables.specs.Rows.{Record, record_of, of}
@@ -31,13 +34,11 @@ use Rattle.dq_archive.proofs.OwnRecords.{of_each, passed, value_from}
 use Rattle.dq_find.specs.declared.level.Level.{Level}
 use Rattle.dq_find.specs.declared.level.Level.TheVariants.{Study, Series, Image}
 use Rattle.dq_find.specs.Levels.{kind_of, has_keys_above}
-use Rattle.dq_find.specs.StudyChoice.{is_no_asterisk}
 use Rattle.dq_find.specs.ComputedKeys.{with_computed}
 use Rattle.dq_find.specs.Answers.{HasKeyAbove}
 use Rattle.dq_find.proofs.QueryLaws.{IsUnder}
 use Rattle.dq_find.specs.Queries.{computed_tags}
 use Rattle.dq_find.proofs.RowAnswers.{stays}
-use Rattle.dq_find.proofs.ChosenStudies.{uid_met}
 use Rattle.dq_find.proofs.NamedRecords.{IsKeyOf, unique_keys_are_uids, sole_of_uid, one_alone}
 
 -- ---- what a kept record has of its own
@@ -65,6 +66,13 @@ has_own institution rows r = of_each HasOwn row_own r institution rows
 given : (value : Option (List ℕ)) → is_some value ≡ true → value ≡ Some (unwrap_or value [])
 given None h = absurd (cc)
 given (Some v) h = refl
+
+abbrev is_no_asterisk : List ℕ → Bool
+is_no_asterisk uid = not (bytes_eq uid (any_run ∷ []))
+
+uid_met : (uid key : List ℕ) → is_no_asterisk uid ≡ true → is_met_by UI uid key ≡ true → bytes_eq key uid ≡ true
+unfolding is_padded matching_of
+uid_met uid key plain met = grind (arith, not-true, bytes_eq-Decides)
 
 no_asterisk : (uid : List ℕ) (b : Bool) → bytes_eq uid (any_run ∷ []) ≡ b → is_uid uid ≡ true → not b ≡ true
 unfolding is_uid

@@ -1,13 +1,9 @@
 -- A study that fits the keys of a query is one that is chosen.
-use Rattle.std.proofs.Common.{◌≡◌, ℕ, Bool, true, false, ◌&&◌, List, Option, Some, None, refl, ap, ◌∙◌, if◌then◌else◌, arith}
+use Rattle.std.proofs.Common.{◌≡◌, ℕ, true, ◌&&◌, List, Some, refl, ap, ◌∙◌}
 use Rattle.std.specs.List.{AllByRecursion}
-use Rattle.std.specs.Str.{bytes_eq}
-use Rattle.std.proofs.lemmas.Bool.{not-true}
-use Rattle.std.proofs.lemmas.Slice.Eq.{bytes_eq-Decides}
-use Rattle.dq_vr.specs.declared.Vr.TheVariants.{DA, LO, UI}
+use Rattle.dq_vr.specs.declared.Vr.TheVariants.{DA, LO}
 use Rattle.dq_vr.specs.Dictionary.{dictionary, vr_in, known_vr}
 use Rattle.dq_vr.specs.Tags as tags
-use Rattle.dq_value.specs.Trimming.{is_padded}
 use Rattle.dq_dataset.specs.Tree.{ElementList}
 use Rattle.dq_dataset.specs.View.{elements_of}
 use Rattle.dq_dataset.specs.Values.{element_at, sole_at}
@@ -15,37 +11,17 @@ use Rattle.dq_dataset.proofs.KnownVrs.{HasKnownVr}
 use Rattle.dq_match.specs.declared.keys.Nesting.TheVariants.{Outer}
 use Rattle.dq_match.specs.StandardMatching.{EachIsMet}
 use Rattle.dq_match.specs.SeveralValues.{is_plain}
-use Rattle.dq_match.specs.Values.{matching_of}
 use Rattle.dq_tables.specs.declared.row.Kind.{Kind}
 use Rattle.dq_tables.specs.declared.row.Kind.TheVariants.{Study}
 use Rattle.dq_tables.specs.Rows.{Record}
 use Rattle.dq_tables.specs.Records.{data_set_of}
-use Rattle.dq_tables.specs.Keys.{value_passing}
 use Rattle.dq_tables.specs.Labels.{patient_in, day_in}
-use Rattle.dq_tables.specs.StudyChoices.{is_none_or, has_labels, is_chosen}
-use Rattle.dq_find.specs.declared.level.Level.TheVariants as level
-use Rattle.dq_find.specs.StudyChoice.{is_no_asterisk, uid_asked, choice_in}
-use Rattle.dq_match.proofs.OneValue.{is_met_by, IsBetween, plain_long, date_between}
+use Rattle.dq_tables.specs.StudyChoices.{has_labels, is_chosen}
+use Rattle.dq_find.specs.StudyChoice.{choice_in}
+use Rattle.dq_match.proofs.OneValue.{IsBetween, plain_long, date_between}
 use Rattle.dq_tables.specs.StudyQuery.{ends_asked}
 use Rattle.dq_tables.proofs.TakenStudies.{DaysAreInOrder, patient_taken, days_taken}
-use Rattle.dq_find.proofs.NamedRecords.{IsKeyOf, unique_keys_are_uids, one_alone}
-
--- ---- the UID
-
-pub uid_met : (uid key : List ℕ) → is_no_asterisk uid ≡ true → is_met_by UI uid key ≡ true → bytes_eq key uid ≡ true
-unfolding is_padded matching_of
-uid_met uid key plain met = grind (arith, not-true, bytes_eq-Decides)
-
-uid_by : (uid key : List ℕ) (b : Bool) → is_no_asterisk uid ≡ b → is_met_by UI uid key ≡ true → is_none_or (bytes_eq key) (if b then Some uid else None) ≡ true
-uid_by uid key true plain met = uid_met uid key plain met
-uid_by uid key false plain met = refl
-
-uid_chosen : (key : List ℕ) (asked : Option (List ℕ)) → ((uid : List ℕ) → asked ≡ Some uid → is_met_by UI uid key ≡ true)
-    → is_none_or (bytes_eq key) (value_passing is_no_asterisk asked) ≡ true
-uid_chosen key None met = refl
-uid_chosen key (Some uid) met = uid_by uid key (is_no_asterisk uid) refl (met uid refl)
-
--- ---- all together
+use Rattle.dq_find.proofs.NamedRecords.{IsKeyOf, one_alone}
 
 patient_key : IsKeyOf LO tags.patient_id
 unfolding known_vr vr_in dictionary
@@ -57,18 +33,15 @@ date_key = (refl, refl, refl)
 
 -- the elements of a study that are asked for stay beside what is computed of it
 pub record Stay (d held : ElementList) : Type 0 where
-  pub uid : element_at tags.study_instance_uid held ≡ element_at tags.study_instance_uid d
   pub patient : element_at tags.patient_id held ≡ element_at tags.patient_id d
   pub date : element_at tags.study_date held ≡ element_at tags.study_date d
 
 pub fit_is_chosen : DaysAreInOrder → (keys held : ElementList) (r : Record) → r.kind ≡ Study
     → AllByRecursion HasKnownVr (elements_of keys) → AllByRecursion HasKnownVr (elements_of (data_set_of r.octets)) → Stay (data_set_of r.octets) held
-    → sole_at tags.study_instance_uid (data_set_of r.octets) ≡ Some r.key → EachIsMet Outer keys held → is_chosen (choice_in keys) r ≡ true
+    → EachIsMet Outer keys held → is_chosen (choice_in keys) r ≡ true
 unfolding is_chosen choice_in
-fit_is_chosen law keys held r is known_keys known stay own each =
+fit_is_chosen law keys held r is known_keys known stay each =
     let d = data_set_of r.octets in
-    let uid = uid_chosen r.key (sole_at tags.study_instance_uid keys)
-    (λ asked wanted. one_alone UI tags.study_instance_uid (unique_keys_are_uids level.Study) keys d held known_keys known stay.uid each asked r.key wanted own) in
     let patient = patient_taken is_plain (sole_at tags.patient_id keys) (sole_at tags.patient_id d)
     (λ key value asked said plain. plain_long key value plain
     (one_alone LO tags.patient_id patient_key keys d held known_keys known stay.patient each key value asked said)) in
@@ -77,5 +50,5 @@ fit_is_chosen law keys held r is known_keys known stay own each =
     let days = days_taken law (sole_at tags.study_date keys) (sole_at tags.study_date d)
     (λ key value first x y asked said. (between key value asked said).from first x y)
     (λ key value last x y asked said. (between key value asked said).until last x y) in
-    ap (λ (k : Kind). is_none_or (bytes_eq r.key) (uid_asked keys) && has_labels (choice_in keys) (patient_in k d) (day_in k d)) is
-    ∙ (λ i. uid i && (patient i && days i))
+    ap (λ (k : Kind). has_labels (choice_in keys) (patient_in k d) (day_in k d)) is
+    ∙ (λ i. patient i && days i)

@@ -3,6 +3,7 @@ use Rattle.std.proofs.Common.{◌≡◌, ℕ, Bool, true, false, ◌&&◌, List,
 use Rattle.std.specs.List.{filter_map}
 use Rattle.std.specs.Str.{bytes_eq}
 use Rattle.std.proofs.lemmas.Bool.{and_parts}
+use Rattle.dq_vr.specs.Tags as tags
 use Rattle.dq_dataset.specs.Tree.{ElementList}
 use Rattle.dq_dataset.specs.Editing.{merged_data_set}
 use Rattle.dq_tables.specs.declared.row.Kind.{Kind}
@@ -16,12 +17,12 @@ use Rattle.dq_find.specs.declared.level.Level.{Level}
 use Rattle.dq_find.specs.declared.level.Level.TheVariants.{Study, Series, Image}
 use Rattle.dq_find.specs.declared.query.Query.{Query}
 use Rattle.dq_find.specs.declared.open_search.SearchCursor.{SearchCursor}
-use Rattle.dq_find.specs.declared.open_search.SearchCursor.TheVariants.{Studies, Named, Nothing}
+use Rattle.dq_find.specs.declared.open_search.SearchCursor.TheVariants.{Under, Named, Nothing}
 use Rattle.dq_find.specs.declared.open_search.OpenSearch.{OpenSearch}
 use Rattle.dq_find.specs.Levels.{kind_of}
 use Rattle.dq_find.specs.ComputedKeys.{images_below, modalities_in, backslash_joined, study_values, series_values, computed_keys}
 use Rattle.dq_find.specs.Candidates.{under, named_record}
-use Rattle.dq_find.specs.Queries.{answer_if, record_answer, records_behind}
+use Rattle.dq_find.specs.Queries.{answer_if, key_above, record_answer, records_asked, records_behind}
 use Rattle.dq_find.specs.OpenSearches.{candidates_left, left_of}
 use Rattle.dq_find.proofs.SearchPages.{narrower}
 
@@ -61,6 +62,12 @@ module _ (records : List Record) where
       found_still (λ (r : Record). same_kind r.kind k && bytes_eq r.key key) (λ (r : Record). is_lasting r.kind)
       (λ r h. lasting_by k r lasts (and_parts (same_kind r.kind k) (bytes_eq r.key key) h).0) records
 
+  asked_lasting : (level : Level) (keys : ElementList) → records_asked (lasting_records records) level keys ≡ records_asked records level keys
+  unfolding records_asked
+  asked_lasting Study keys = of_lasting kind.Study refl
+  asked_lasting Series keys = above_lasting kind.Series (key_above tags.study_instance_uid keys) refl
+  asked_lasting Image keys = above_lasting kind.Image (key_above tags.series_instance_uid keys) refl
+
   -- ---- what is computed and answered of one
 
   images_lasting : (series : List Record) → images_below (lasting_records records) series ≡ images_below records series
@@ -85,7 +92,7 @@ module _ (records : List Record) where
     named_lasting uid = ap (under query.level query.keys) (at_lasting (kind_of query.level) uid (level_lasts query.level))
 
     candidates_lasting : (left : SearchCursor) → candidates_left (lasting_records records) query left ≡ candidates_left records query left
-    candidates_lasting (Studies after) = ap (records_behind after) (of_lasting kind.Study refl)
+    candidates_lasting (Under after) = ap (records_behind after) (asked_lasting query.level query.keys)
     candidates_lasting (Named keys from) = λ i. filter_map (λ (uid : List ℕ). named_lasting uid i) (drop from keys)
     candidates_lasting Nothing = refl
 

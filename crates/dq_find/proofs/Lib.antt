@@ -21,5 +21,6 @@ mod SearchPages
 pub mod LastingRecords
 mod FoundAnswers
 mod StudyImages
+mod PartAnswers
 mod FilledPages
 mod PagesBehind

@@ -31,6 +31,7 @@ use Rattle.dq_tables.specs.Lookups.{record_at, records_of, records_above}
 use Rattle.dq_tables.specs.Records.{AreInOrder, data_set_of}
 use Rattle.dq_tables.specs.Keys.{uid_at}
 use Rattle.dq_tables.specs.Sound.{OwnEach, has_key}
+use Rattle.dq_tables.specs.StudyChoices.{studies_among}
 use Rattle.dq_tables.proofs.RecordLists.{listed_in_order, in_order_filter}
 use Rattle.dq_tables.proofs.RisingLists.{one_list}
 use Rattle.dq_archive.proofs.UniqueKeys.{only_named}
@@ -40,16 +41,16 @@ use Rattle.dq_find.specs.declared.level.Level.{Level}
 use Rattle.dq_find.specs.declared.level.Level.TheVariants.{Study, Series, Image}
 use Rattle.dq_find.specs.declared.query.Query.{Query}
 use Rattle.dq_find.specs.Levels.{kind_of, unique_key}
-use Rattle.dq_find.specs.StudyChoice.{is_asked}
+use Rattle.dq_find.specs.StudyChoice.{choice_in, is_asked}
 use Rattle.dq_find.specs.ComputedKeys.{with_computed, computed_keys}
 use Rattle.dq_find.specs.OpenSearches.{keys_behind}
 use Rattle.dq_find.specs.Queries.{answer_elements, record_answer, records_asked, asked_records, records_behind, answers_behind}
-use Rattle.dq_find.specs.Candidates.{own_values, names_records, looks_up, has_one_of, query_candidates, is_looked_at, is_under, under, looked_up, named_record, named_rows}
+use Rattle.dq_find.specs.Candidates.{own_values, names_records, has_one_of, query_candidates, is_looked_at, is_under, under, looked_up, named_record, named_rows}
 use Rattle.dq_find.proofs.QueryLaws.{asked_from, asked_in_order}
 use Rattle.dq_find.proofs.RowAnswers.{stays}
 use Rattle.dq_find.proofs.AskedRecords.{has_own, EachAlone}
 use Rattle.dq_find.proofs.AskedRows.{kept_all}
-use Rattle.dq_find.proofs.NamedRecords.{unique_keys_are_uids, sole_of_uid, named_among}
+use Rattle.dq_find.proofs.NamedRecords.{unique_keys_are_uids, named_among}
 use Rattle.dq_tables.proofs.TakenStudies.{DaysAreInOrder}
 use Rattle.dq_find.proofs.ChosenStudies.{Stay, fit_is_chosen}
 use Rattle.dq_find.proofs.Modalities.{IsInOrder, IsBefore}
@@ -238,13 +239,6 @@ pub rows_are : (institution : List ℕ) (records : List Record) (query : Query) 
 rows_are institution records query [] = refl
 rows_are institution records query (uid ∷ uids) = grind (arith, rows_step, rows_are institution records query uids)
 
-looks_named : (level : Level) (values : List (List ℕ)) → looks_up level values ≡ true → names_records values ≡ true
-looks_named Study [] h = absurd cc
-looks_named Study (uid ∷ []) h = absurd cc
-looks_named Study (uid ∷ (next ∷ others)) h = h
-looks_named Series values h = h
-looks_named Image values h = h
-
 each_octets : (uid : List ℕ) (uids : List (Vec ℕ)) → AllByRecursion (λ (v : Vec ℕ). IsBefore uid v.items) uids → AllByRecursion (IsBefore uid) (octets_of_vectors uids)
 each_octets uid [] before = tt
 each_octets uid (next ∷ uids) before = (before.0, each_octets uid uids before.1)
@@ -257,7 +251,7 @@ in_octets (uid ∷ uids) ordered = (each_octets uid.items uids ordered.0, in_oct
 pub named_candidates : (institution : List ℕ) (rows : List Row) (query : Query) (uids : List (Vec ℕ)) → IsRising rows
     → IsStrictlySortedBy (λ (a b : Vec ℕ). octet_order a.items b.items) uids
     → ((value : List ℕ) → is_one_of_values value (octets_of_vectors uids) ≡ is_one_of_values value (own_values query))
-    → looks_up query.level (own_values query) ≡ true
+    → names_records (own_values query) ≡ true
     → filter_map (named_record (of institution rows) query) (octets_of_vectors uids) ≡ query_candidates (of institution rows) query
 named_candidates institution rows query uids rising ordered same looked =
     let records = asked_records (of institution rows) query in
@@ -318,24 +312,22 @@ module _ (institution : List ℕ) (rows : List Row) (called : List ℕ) (query :
       let held = data_set_of r.octets in
       let whole = with_computed (of institution rows) query.level r in
       let kind : r.kind ≡ kind.Study = from.1 ∙ ap kind_of level in
-      let key = sole_of_uid tags.study_instance_uid held r.key (key_is Study r kind own.key) in
       let at : merged_data_set held (computed_keys (of institution rows) Study r.key) ≡ whole =
       ap (λ (l : Level). merged_data_set held (computed_keys (of institution rows) l r.key)) (sym level) in
       let stay = subst (Stay held) at (record {
-        uid = stays (of institution rows) Study r.key held tags.study_instance_uid refl;
         patient = stays (of institution rows) Study r.key held tags.patient_id refl;
         date = stays (of institution rows) Study r.key held tags.study_date refl;
       }) in
-      absurd (cc (sym other ∙ fit_is_chosen days query.keys whole r kind known own.known stay key (alone whole is)))
+      absurd (cc (sym other ∙ fit_is_chosen days query.keys whole r kind known own.known stay (alone whole is)))
   not_chosen_by r Study false level h other is = refl
   not_chosen_by r Series b level h other is = absurd cc
   not_chosen_by r Image b level h other is = absurd cc
 
-  not_looked_at : (r : Record) (b : Bool) → looks_up query.level (own_values query) ≡ b → IsAmong r (asked_records (of institution rows) query)
+  not_looked_at : (r : Record) (b : Bool) → names_records (own_values query) ≡ b → IsAmong r (asked_records (of institution rows) query)
       → (if b then has_one_of (own_values query) r else is_asked query.level query.keys r) ≡ false → record_answer (of institution rows) called query r ≡ None
   not_looked_at r false is h other = not_chosen_by r query.level (fits query.keys (with_computed (of institution rows) query.level r)) refl h other refl
   not_looked_at r true is h other =
-      not_named_by r (fits query.keys (with_computed (of institution rows) query.level r)) h (looks_named query.level (own_values query) is) other refl
+      not_named_by r (fits query.keys (with_computed (of institution rows) query.level r)) h is other refl
 
   among_asked : (after : Option (List ℕ)) (r : Record) → IsAmong r (records_behind after (asked_records (of institution rows) query))
       → IsAmong r (asked_records (of institution rows) query)
@@ -351,12 +343,13 @@ module _ (institution : List ℕ) (rows : List Row) (called : List ℕ) (query :
       let asked = asked_records (of institution rows) query in
       ap (filter_map (record_answer (of institution rows) called query)) (behind_filter after (is_looked_at query) asked)
       ∙ given_skipped (record_answer (of institution rows) called query) (is_looked_at query) (records_behind after asked)
-      (λ r h other. not_looked_at r (looks_up query.level (own_values query)) refl (among_asked after r h) other)
+      (λ r h other. not_looked_at r (names_records (own_values query)) refl (among_asked after r h) other)
 
--- where none are looked up, all that are asked for are looked at
-pub all_candidates : (institution : List ℕ) (records : List Record) (query : Query) → looks_up query.level (own_values query) ≡ false
-    → map (row_of institution) (filter (is_asked query.level query.keys) (asked_records records query))
-    ≡ map (row_of institution) (query_candidates records query)
-all_candidates institution records query none =
-    ap (λ (b : Bool). map (row_of institution)
-    (filter (λ (r : Record). if b then has_one_of (own_values query) r else is_asked query.level query.keys r) (asked_records records query))) (sym none)
+-- where none are named, the studies that are chosen are looked at
+pub chosen_candidates : (records : List Record) (query : Query) → query.level ≡ Study → names_records (own_values query) ≡ false
+    → studies_among (choice_in query.keys) records ≡ query_candidates records query
+unfolding studies_among records_asked
+chosen_candidates records query is none =
+    ap (λ (l : Level). filter (is_asked l query.keys) (records_asked records l query.keys)) (sym is)
+    ∙ ap (λ (b : Bool). filter (λ (r : Record). if b then has_one_of (own_values query) r else is_asked query.level query.keys r) (asked_records records query))
+    (sym none)

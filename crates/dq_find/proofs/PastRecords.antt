@@ -8,9 +8,9 @@ use Rattle.dq_dataset.proofs.KnownVrs.{facts_give_known_vrs}
 use Rattle.dq_list.specs.Octets.{octets_of_vectors}
 use Rattle.dq_match.specs.SeveralValues.{is_one_of_values}
 use Rattle.dq_tables.specs.declared.row.Kind.{Kind}
-use Rattle.dq_tables.specs.Lookups.{records_of}
+use Rattle.dq_tables.specs.Lookups.{records_above}
 use Rattle.dq_tables.specs.Records.{AreInOrder}
-use Rattle.dq_tables.proofs.RecordLists.{listed_in_order}
+use Rattle.dq_tables.proofs.RecordLists.{above_in_order}
 use Rattle.dq_tables.specs.declared.row.Row.{Row}
 use Rattle.dq_tables.specs.Rows.{Record, IsRising, octet_order, of, record_of}
 use Rattle.dq_tables.specs.Sound.{IsSound, is_own_row}
@@ -20,10 +20,11 @@ use Rattle.dq_tables.proofs.TakenStudies.{DaysAreInOrder}
 use Rattle.dq_archive.specs.declared.additions.Addition.{Addition}
 use Rattle.dq_archive.specs.Additions.{is_later, without}
 use Rattle.dq_find.specs.declared.query.Query.{Query}
-use Rattle.dq_find.specs.Candidates.{own_values, looks_up, query_candidates, named_record}
+use Rattle.dq_find.specs.Candidates.{own_values, names_records, query_candidates, named_record}
 use Rattle.dq_find.specs.OpenSearches.{keys_behind}
-use Rattle.dq_find.specs.Queries.{record_answer, records_behind, answers_behind}
+use Rattle.dq_find.specs.Queries.{record_answer, asked_records, records_behind, answers_behind}
 use Rattle.dq_find.proofs.AskedRecords.{EachAlone}
+use Rattle.dq_find.proofs.QueryLaws.{asked_in_order}
 use Rattle.dq_find.proofs.NamedLookups.{named_candidates, named_again, named_behind, answers_of_candidates}
 
 module _ (later : List Addition) (institution : List ℕ) (rows : List Row) where
@@ -41,7 +42,7 @@ module _ (later : List Addition) (institution : List ℕ) (rows : List Row) wher
   pub named_then : (query : Query) (uids : List (Vec ℕ)) → IsRising rows
       → IsStrictlySortedBy (λ (a b : Vec ℕ). octet_order a.items b.items) uids
       → ((value : List ℕ) → is_one_of_values value (octets_of_vectors uids) ≡ is_one_of_values value (own_values query))
-      → looks_up query.level (own_values query) ≡ true
+      → names_records (own_values query) ≡ true
       → filter_map (named_record was query) (octets_of_vectors uids) ≡ query_candidates was query
   named_then query uids rising ordered same looked =
       subst (λ (records : List Record). filter_map (named_record records query) (octets_of_vectors uids) ≡ query_candidates records query)
@@ -54,11 +55,16 @@ module _ (later : List Addition) (institution : List ℕ) (rows : List Row) wher
       subst (λ (records : List Record). filter_map (named_record records query) (map (λ (r : Record). r.key) (query_candidates records query)) ≡ query_candidates records query)
       rows_then (named_again institution (filter stays rows) query (IsRising-filter stays rows rising))
 
-  -- the studies are in order
-  pub ordered_then : (kind : Kind) → IsRising rows → AreInOrder (records_of kind was)
-  ordered_then kind rising =
-      subst (λ (records : List Record). AreInOrder (records_of kind records)) rows_then
-      (listed_in_order kind institution (filter stays rows) (IsRising-filter stays rows rising))
+  -- those that are asked for, and those under another, are in order
+  pub asked_then : (query : Query) → IsRising rows → AreInOrder (asked_records was query)
+  asked_then query rising =
+      subst (λ (records : List Record). AreInOrder (asked_records records query)) rows_then
+      (asked_in_order institution (filter stays rows) query (IsRising-filter stays rows rising))
+
+  pub above_then : (kind : Kind) (above : List ℕ) → IsRising rows → AreInOrder (records_above kind above was)
+  above_then kind above rising =
+      subst (λ (records : List Record). AreInOrder (records_above kind above records)) rows_then
+      (above_in_order kind institution above (filter stays rows) (IsRising-filter stays rows rising))
 
   -- the answers of those that some keys name, of those behind a key
   pub named_then_answered : (called : List ℕ) (query : Query) (after : Option (List ℕ)) (keys : List (List ℕ))

@@ -7,20 +7,18 @@ use Rattle.std.specs.declared.cmp.Ordering.TheVariants.{Less, Equal, Greater}
 use Rattle.std.proofs.lemmas.Cmp.{nat_list_cmp_total, tied_itself}
 use Rattle.std.proofs.lemmas.List.{take-append-drop, drop-drop}
 use Rattle.std.proofs.lemmas.List.Elements.{filter_map-append}
-use Rattle.dq_tables.specs.declared.row.Kind.TheVariants.{Study as StudyKind}
 use Rattle.dq_tables.specs.declared.row.Row.{Row}
 use Rattle.dq_tables.specs.Rows.{Record, octet_order, row_of}
-use Rattle.dq_tables.specs.Lookups.{records_of}
 use Rattle.dq_tables.specs.Records.{AreInOrder}
 use Rattle.dq_tables.proofs.RecordLists.{in_order_filter}
 use Rattle.dq_tables.proofs.Order.{each_weaker, each_passed, filter_all}
 use Rattle.dq_find.specs.declared.open_search.SearchCursor.{SearchCursor}
-use Rattle.dq_find.specs.declared.open_search.SearchCursor.TheVariants.{Studies, Named, Nothing}
+use Rattle.dq_find.specs.declared.open_search.SearchCursor.TheVariants.{Under, Named, Nothing}
 use Rattle.dq_find.specs.declared.open_search.OpenSearch.{OpenSearch}
 use Rattle.dq_find.specs.declared.query.Query.{Query}
 use Rattle.dq_find.specs.Candidates.{named_record}
-use Rattle.dq_find.specs.Queries.{record_answer, records_behind}
-use Rattle.dq_find.specs.OpenSearches.{candidates_left, left_of, next_candidates, last_key, studies_after, left_after}
+use Rattle.dq_find.specs.Queries.{record_answer, asked_records, records_behind}
+use Rattle.dq_find.specs.OpenSearches.{candidates_left, left_of, next_candidates, last_key, under_after, left_after}
 use Rattle.dq_find.proofs.FromPlace.{past_all}
 
 abbrev pub behind : List ℕ → Record → Bool
@@ -98,14 +96,14 @@ module _ (records : List Record) (ordered : AreInOrder records) where
   later_of_one key before r later is =
       behind_one key before r later is ∙ ap (filter (behind r.key)) is ∙ split_behind before r later (subst AreInOrder is (behind_ordered key))
 
-  -- a page of them, and those behind its last
-  behind_split : (key : Option (List ℕ)) (most : ℕ) (before : List Record) (r : Record) → take most (records_behind key records) ≡ before ++ (r ∷ [])
-      → records_behind key records ≡ take most (records_behind key records) ++ filter (behind r.key) records
-  behind_split key most before r page =
+  -- those after a page of them are those behind its last
+  pub after_last : (key : Option (List ℕ)) (most : ℕ) (before : List Record) (r : Record) → take most (records_behind key records) ≡ before ++ (r ∷ [])
+      → drop most (records_behind key records) ≡ filter (behind r.key) records
+  after_last key most before r page =
       let whole = records_behind key records in
       let later = drop most whole in
       let is : whole ≡ before ++ (r ∷ later) = sym (take-append-drop most whole) ∙ ap (λ l. l ++ later) page ∙ append_assoc before (r ∷ []) later in
-      sym (take-append-drop most whole) ∙ ap (λ l. take most whole ++ l) (sym (later_of_one key before r later is))
+      sym (later_of_one key before r later is)
 
 -- ---- some keys, and those that are left of them
 
@@ -121,7 +119,7 @@ left_keys keys from most =
 -- ---- what is looked at, and what is left then
 
 -- none, or some and a last one
-ends_of : (xs : List Record) → (xs ≡ []) ⊎ ((before : List Record) × (r : Record) × (xs ≡ before ++ (r ∷ [])))
+pub ends_of : (xs : List Record) → (xs ≡ []) ⊎ ((before : List Record) × (r : Record) × (xs ≡ before ++ (r ∷ [])))
 ends_of [] = inl refl
 ends_of (x ∷ xs) = inr (one_more x xs (ends_of xs))
   where
@@ -130,7 +128,7 @@ ends_of (x ∷ xs) = inr (one_more x xs (ends_of xs))
     one_more x xs (inl none) = ([], x, ap (λ l. x ∷ l) none)
     one_more x xs (inr (before, r, is)) = (x ∷ before, r, ap (λ l. x ∷ l) is)
 
-last_of : (h : List ℕ) (before : List Record) (r : Record) → last_key (map (row_of h) (before ++ (r ∷ []))) ≡ Some r.key
+pub last_of : (h : List ℕ) (before : List Record) (r : Record) → last_key (map (row_of h) (before ++ (r ∷ []))) ≡ Some r.key
 last_of h [] r = refl
 last_of h (x ∷ []) r = refl
 last_of h (x ∷ (y ∷ before)) r = last_of h (y ∷ before) r
@@ -140,29 +138,30 @@ none_first most [] some none = refl
 none_first zero (x ∷ xs) some none = absurd (omega arith)
 none_first (suc most) (x ∷ xs) some none = absurd cc
 
-module _ (h : List ℕ) (most : ℕ) (some : 0 < most) (records : List Record) (query : Query) (ordered : AreInOrder (records_of StudyKind records)) where
+module _ (h : List ℕ) (most : ℕ) (some : 0 < most) (records : List Record) (query : Query) (ordered : AreInOrder (asked_records records query)) where
   abbrev looked_at : SearchCursor → List Record
   looked_at left = next_candidates most records query left
 
   abbrev then_left : SearchCursor → SearchCursor
   then_left left = left_after most (map (row_of h) (looked_at left)) left
 
-  abbrev studies : Option (List ℕ) → List Record
-  studies key = records_behind key (records_of StudyKind records)
+  abbrev asked : Option (List ℕ) → List Record
+  asked key = records_behind key (asked_records records query)
 
-  studies_pass : (key : Option (List ℕ)) → studies key
-      ≡ take most (studies key) ++ candidates_left records query (studies_after (last_key (map (row_of h) (take most (studies key)))))
-  studies_pass key = by_end (ends_of page)
+  asked_pass : (key : Option (List ℕ)) → asked key
+      ≡ take most (asked key) ++ candidates_left records query (under_after (last_key (map (row_of h) (take most (asked key)))))
+  asked_pass key = by_end (ends_of page)
     where
       page : List Record
-      page = take most (studies key)
+      page = take most (asked key)
 
       by_end : (page ≡ []) ⊎ ((before : List Record) × (r : Record) × (page ≡ before ++ (r ∷ [])))
-          → studies key ≡ page ++ candidates_left records query (studies_after (last_key (map (row_of h) page)))
-      by_end (inl none) = none_first most (studies key) some none
-          ∙ sym (ap (λ l. l ++ candidates_left records query (studies_after (last_key (map (row_of h) l)))) none)
-      by_end (inr (before, r, is)) = behind_split (records_of StudyKind records) ordered key most before r is
-          ∙ sym (ap (λ k. page ++ candidates_left records query (studies_after k)) (ap (λ l. last_key (map (row_of h) l)) is ∙ last_of h before r))
+          → asked key ≡ page ++ candidates_left records query (under_after (last_key (map (row_of h) page)))
+      by_end (inl none) = none_first most (asked key) some none
+          ∙ sym (ap (λ l. l ++ candidates_left records query (under_after (last_key (map (row_of h) l)))) none)
+      by_end (inr (before, r, is)) = sym (take-append-drop most (asked key))
+          ∙ ap (λ l. page ++ l) (after_last (asked_records records query) ordered key most before r is)
+          ∙ sym (ap (λ k. page ++ candidates_left records query (under_after k)) (ap (λ l. last_key (map (row_of h) l)) is ∙ last_of h before r))
 
   named_pass : (keys : List (List ℕ)) (from : ℕ) → filter_map (named_record records query) (drop from keys)
       ≡ filter_map (named_record records query) (take most (drop from keys))
@@ -173,7 +172,7 @@ module _ (h : List ℕ) (most : ℕ) (some : 0 < most) (records : List Record) (
       ∙ ap (λ l. filter_map (named_record records query) (take most (drop from keys)) ++ filter_map (named_record records query) l) (sym (left_keys keys from most))
 
   pub passed : (left : SearchCursor) → candidates_left records query left ≡ looked_at left ++ candidates_left records query (then_left left)
-  passed (Studies key) = studies_pass key
+  passed (Under key) = asked_pass key
   passed (Named keys from) = named_pass keys from
   passed Nothing = refl
 

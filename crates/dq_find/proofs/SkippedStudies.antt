@@ -5,14 +5,12 @@ use Rattle.std.proofs.lemmas.List.{take-append-drop, drop-drop, drop-map}
 use Rattle.dq_dataset.specs.Tree.{ElementList}
 use Rattle.dq_match.specs.Matching.{fits}
 use Rattle.dq_match.specs.Responses.{shown_data_set}
-use Rattle.dq_tables.specs.declared.row.Kind.TheVariants.{Study as StudyKind}
 use Rattle.dq_tables.specs.Rows.{Record, row_of}
-use Rattle.dq_tables.specs.Lookups.{records_of}
 use Rattle.dq_tables.specs.Records.{AreInOrder}
 use Rattle.dq_find.specs.declared.query.Query.{Query}
 use Rattle.dq_find.specs.ComputedKeys.{with_computed}
-use Rattle.dq_find.specs.OpenSearches.{candidates_left, last_key, studies_after}
-use Rattle.dq_find.specs.Queries.{answer_elements, record_answer}
+use Rattle.dq_find.specs.OpenSearches.{candidates_left, last_key, under_after}
+use Rattle.dq_find.specs.Queries.{answer_elements, record_answer, asked_records}
 use Rattle.dq_find.proofs.SearchPages.{behind, split_behind}
 
 module _ (records : List Record) (called : List ℕ) (query : Query) (fit : (held : ElementList) → fits query.keys held ≡ true) where
@@ -30,9 +28,9 @@ module _ (records : List Record) (called : List ℕ) (query : Query) (fit : (hel
   all_told (r ∷ others) = rw (each_told r) (ap (λ l. told r ∷ l) (all_told others))
 
   -- each of them answers, so behind one of them are the answers behind its own
-  module _ (ordered : AreInOrder (records_of StudyKind records)) (institution : List ℕ) (before : ℕ) where
+  module _ (ordered : AreInOrder (asked_records records query)) (institution : List ℕ) (before : ℕ) where
     abbrev studies : List Record
-    studies = records_of StudyKind records
+    studies = asked_records records query
 
     abbrev one : List Record
     one = take 1 (drop before studies)
@@ -41,14 +39,14 @@ module _ (records : List Record) (called : List ℕ) (query : Query) (fit : (hel
     next_dropped is = sym (drop-drop 1 before studies) ∙ ap (drop 1) is
 
     behind_one : (rest : List Record) → drop before studies ≡ rest
-        → candidates_left records query (studies_after (last_key (map (row_of institution) (take 1 rest)))) ≡ drop (before + 1) studies
+        → candidates_left records query (under_after (last_key (map (row_of institution) (take 1 rest)))) ≡ drop (before + 1) studies
     behind_one [] is = sym (next_dropped is)
     behind_one (r ∷ later) is =
         let whole : studies ≡ take before studies ++ (r ∷ later) = sym (take-append-drop before studies) ∙ ap (λ l. take before studies ++ l) is in
         ap (filter (behind r.key)) whole ∙ split_behind (take before studies) r later (subst AreInOrder whole ordered)
         ∙ sym (next_dropped is)
 
-    pub skipped : filter_map (record_answer records called query) (candidates_left records query (studies_after (last_key (map (row_of institution) one))))
+    pub skipped : filter_map (record_answer records called query) (candidates_left records query (under_after (last_key (map (row_of institution) one))))
         ≡ drop (before + 1) (filter_map (record_answer records called query) studies)
     skipped =
         ap (filter_map (record_answer records called query)) (behind_one (drop before studies) refl)

@@ -1,16 +1,17 @@
 -- Answers that a page takes, row after row and series after series.
-use Rattle.std.proofs.Common.{◌≡◌, ℕ, ◌<◌, ◌+◌, List, [], ◌∷◌, ◌++◌, length, get_or, take, drop, map, Option, Some, None, Ok, refl, sym, ap, ◌∙◌, append-nil, append_assoc}
+use Rattle.std.proofs.Common.{◌≡◌, ℕ, ◌<◌, ◌+◌, min, List, [], ◌++◌, length, get_or, drop, map, Option, Some, None, Ok, refl, sym, ap, ◌∙◌, append-nil, append_assoc}
 use Rattle.std.specs.List.{filter_map, cons_option}
 use Rattle.std.proofs.lemmas.List.Elements.{filter_map-append}
+use Rattle.std.proofs.lemmas.Grind.{flat_map-append}
 use Rattle.dq_dataset.specs.Tree.{ElementList}
 use Rattle.dq_match.proofs.Parts.{from_place}
-use Rattle.dq_match.proofs.Answering.{given_of_each}
 use Rattle.dq_match.specs.Parts.{with_others}
+use Rattle.dq_match.specs.ShownPages.{page_most, page_octets, shown_page}
+use Rattle.dq_match.specs.declared.shown_page.ShownPage.{ShownPage}
 use Rattle.dq_match.specs.declared.page_collector.PageCollector.{PageCollector}
-use Rattle.dq_tables.proofs.RecordLists.{own_records}
 use Rattle.dq_tables.proofs.TableCalls.{reads_then, reads_right}
 use Rattle.dq_tables.specs.TableStates.{State}
-use Rattle.dq_tables.specs.Rows.{Record, of, record_of, row_of}
+use Rattle.dq_tables.specs.Rows.{Record, of, record_of}
 use Rattle.dq_tables.specs.Lookups.{records_above}
 use Rattle.dq_tables.specs.declared.row.Kind.TheVariants.{Series as SeriesKind, Image as ImageKind}
 use Rattle.dq_tables.specs.declared.row.Row.{Row}
@@ -19,9 +20,8 @@ use Rattle.dq_archive.specs.Additions.{without}
 use Rattle.dq_archive.specs.PastArchives.{state_in, records_in}
 use Rattle.dq_archive.specs.declared.past.Past.{Past}
 use Rattle.dq_find.specs.Queries.{record_answer}
-use Rattle.dq_find.specs.StudyImages.{images_of, images_in_study, Takes, TakesAnswers}
+use Rattle.dq_find.specs.StudyImages.{images_of, Takes, TakesAnswers}
 use Rattle.dq_find.specs.declared.query.Query.{Query}
-use Rattle.dq_find.proofs.RowAnswers.{row_answers}
 
 -- A page comes to the same with what is left as it did with all.
 abbrev pub StillTakes : PageCollector → List ElementList → PageCollector → List ElementList → Type 0
@@ -53,19 +53,21 @@ some_taken now next before answers left all takes so_far others =
 
 -- ---- the images of some series
 
--- the answers of the images of some series, whose rows these are
-abbrev pub series_answers : List Record → List ℕ → Query → List Row → List ElementList
-series_answers records called query series = filter_map (record_answer records called query) (images_of records (map record_of series))
+-- the answers of the images of some series
+abbrev pub answers_of_series : List Record → List ℕ → Query → List Record → List ElementList
+answers_of_series records called query series = filter_map (record_answer records called query) (images_of records series)
 
--- those of the first series, and those of the others
-pub first_series : (institution called : List ℕ) (records : List Record) (query : Query) (row : Row) (others : List Row)
-    → series_answers records called query (row ∷ others)
-    ≡ row_answers records called query (map (row_of institution) (records_above ImageKind row.key records)) ++ series_answers records called query others
-first_series institution called records query row others =
-    let images = records_above ImageKind row.key records in
-    filter_map-append (record_answer records called query) images (images_of records (map record_of others))
-    ∙ ap (λ (answers : List ElementList). answers ++ series_answers records called query others)
-    (sym (given_of_each (λ (r : Row). record_answer records called query (record_of r)) (row_of institution) images))
+-- the same of those whose rows these are
+abbrev pub series_answers : List Record → List ℕ → Query → List Row → List ElementList
+series_answers records called query series = answers_of_series records called query (map record_of series)
+
+-- those of some series, and those of others
+pub both_series : (records : List Record) (called : List ℕ) (query : Query) (some others : List Record)
+    → answers_of_series records called query (some ++ others)
+    ≡ answers_of_series records called query some ++ answers_of_series records called query others
+both_series records called query some others =
+    ap (filter_map (record_answer records called query)) (flat_map-append (λ (one : Record). records_above ImageKind one.key records) some others)
+    ∙ filter_map-append (record_answer records called query) (images_of records some) (images_of records others)
 
 -- answers were taken after what was looked up so far
 pub takes_on : {T X Z : Type 0} (state : T → State) (old mid new : Past T) (x : X) (Fact : List Record → Type 0)
@@ -86,32 +88,29 @@ takes_on state old mid new x Fact first before after look second z Next next = r
 }
 
 -- the answers of the images of one series more were taken
-pub series_taken : (institution called : List ℕ) (query : Query) (series : List Row) (at : ℕ) (row : Row) (key : List ℕ) (images rows : List Row)
+pub series_taken : (called : List ℕ) (query : Query) (series : List Row) (at : ℕ) (row : Row) (key : List ℕ)
     (now next before : PageCollector) (records : List Record) (all : List ElementList)
-    → at < length series → row ≡ get_or series at row → key ≡ row.key → rows ≡ images
+    → at < length series → row ≡ get_or series at row → key ≡ row.key
     → StillTakes now (series_answers records called query (drop at series)) before all
-    → images ≡ map (row_of institution) (records_above ImageKind key records)
-    → Takes now (row_answers records called query rows) next
+    → Takes now (filter_map (record_answer records called query) (records_above ImageKind key records)) next
     → StillTakes next (series_answers records called query (drop (at + 1) series)) before all
-series_taken institution called query series at row key images rows now next before records all within is same_key listed so_far found takes =
+series_taken called query series at row key now next before records all within is same_key so_far takes =
+    let images : List ℕ → List ElementList = λ k. filter_map (record_answer records called query) (records_above ImageKind k records) in
     let left = series_answers records called query (drop (at + 1) series) in
-    let step : series_answers records called query (drop at series) ≡ row_answers records called query rows ++ left =
+    let step : series_answers records called query (drop at series) ≡ images key ++ left =
     ap (λ (them : List Row). series_answers records called query them) (from_place series at row within is)
-    ∙ first_series institution called records query row (drop (at + 1) series)
-    ∙ ap (λ (them : List Row). row_answers records called query them ++ left)
-    (sym (listed ∙ found ∙ ap (λ (k : List ℕ). map (row_of institution) (records_above ImageKind k records)) same_key)) in
-    some_taken now next before (row_answers records called query rows) left all takes
+    ∙ filter_map-append (record_answer records called query) (records_above ImageKind row.key records) (images_of records (map record_of (drop (at + 1) series)))
+    ∙ ap (λ (k : List ℕ). images k ++ left) (sym same_key) in
+    some_taken now next before (images key) left all takes
     (λ others. ap (λ (answers : List ElementList). with_others now (answers ++ others)) (sym step) ∙ so_far others)
 
--- what a page comes to that took the answers of the images of all series of a study
-pub page_of_study : (institution study : List ℕ) (query : Query) (from most : ℕ) (series rows : List Row) (start after : PageCollector) (records : List Record)
-    → start ≡ record { before = from; left = Some most; answers = [] }
-    → rows ≡ series → series ≡ map (row_of institution) (records_above SeriesKind study records)
-    → Takes start (series_answers records [] query rows) after
-    → with_others after [] ≡ take most (drop from (filter_map (record_answer records [] query) (images_in_study records study)))
-page_of_study institution study query from most series rows start after records begins listed found takes =
+-- what a page comes to that took the answers of the images of a study
+pub page_of_study : (study : List ℕ) (query : Query) (page : ShownPage) (start after : PageCollector) (records : List Record)
+    → start ≡ record { before = page.offset; left = Some (record { answers = min page.limit page_most; octets = page_octets }); answers = [] }
+    → Takes start (answers_of_series records [] query (records_above SeriesKind study records)) after
+    → with_others after [] ≡ shown_page page (answers_of_series records [] query (records_above SeriesKind study records))
+page_of_study study query page start after records begins takes =
+    let answers = answers_of_series records [] query (records_above SeriesKind study records) in
     takes []
-    ∙ ap (λ (page : PageCollector). with_others page (series_answers records [] query rows ++ [])) begins
-    ∙ ap (λ (answers : List ElementList). take most (drop from answers)) (append-nil (series_answers records [] query rows))
-    ∙ ap (λ (them : List Record). take most (drop from (filter_map (record_answer records [] query) (images_of records them))))
-    (ap (map record_of) (listed ∙ found) ∙ own_records institution (records_above SeriesKind study records))
+    ∙ ap (λ (collector : PageCollector). with_others collector (answers ++ [])) begins
+    ∙ ap (shown_page page) (append-nil answers)

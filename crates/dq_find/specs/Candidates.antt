@@ -31,15 +31,10 @@ names_records (first ∷ others) = not (bytes_eq first (any_run ∷ []))
 abbrev pub has_one_of : List (List ℕ) → Record → Bool
 has_one_of uids r = list_any (λ uid. bytes_eq r.key uid) uids
 
--- such records are looked up one by one; one study is a part of the choice of studies
-abbrev pub looks_up : Level → List (List ℕ) → Bool
-looks_up Study (uid ∷ []) = false
-looks_up level values = names_records values
-
--- a record has one of the keys that are looked up, or is asked for where none are
+-- a record has one of the keys that are named, or is asked for where none are
 abbrev pub is_looked_at : Query → Record → Bool
 is_looked_at query r =
-    if looks_up query.level (own_values query) then has_one_of (own_values query) r
+    if names_records (own_values query) then has_one_of (own_values query) r
     else is_asked query.level query.keys r
 
 abbrev pub query_candidates : List Record → Query → List Record

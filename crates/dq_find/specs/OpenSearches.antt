@@ -1,29 +1,27 @@
 -- A search that is open: its answers are found a page at a time. What is left of it are the answers
 -- of the records that it has still to look at.
-use Rattle.std.specs.Prelude.{◌≡◌, ◌+◌, ℕ, List, [], ◌∷◌, ◌++◌, length, take, drop, Option, Some, None, Result, IfOk, OnOk, OnErr}
+use Rattle.std.specs.Prelude.{◌≡◌, ◌+◌, ℕ, List, [], ◌∷◌, ◌++◌, length, take, drop, Option, Some, None, Result, IfOk, IfSome, OnOk, OnErr}
 use Rattle.std.specs.List.{filter, filter_map}
 use Rattle.std.specs.Ordering.{is_gt}
 use Rattle.dq_dataset.specs.Tree.{ElementList}
 use Rattle.dq_match.specs.declared.page_collector.PageCollector.{PageCollector}
 use Rattle.dq_tables.specs.declared.fault.TableFault.{TableFault}
-use Rattle.dq_tables.specs.declared.row.Kind.TheVariants.{Study}
 use Rattle.dq_tables.specs.declared.row.Row.{Row}
 use Rattle.dq_tables.specs.Rows.{Record, octet_order}
-use Rattle.dq_tables.specs.Lookups.{records_of}
 use Rattle.dq_tables.specs.TableStates.{State, Reads}
 use Rattle.dq_archive.specs.declared.past.Past.{Past}
 use Rattle.dq_archive.specs.PastArchives.{IsSame, state_in, records_in}
 use Rattle.dq_find.specs.declared.open_search.SearchCursor.{SearchCursor}
-use Rattle.dq_find.specs.declared.open_search.SearchCursor.TheVariants.{Studies, Named, Nothing}
+use Rattle.dq_find.specs.declared.open_search.SearchCursor.TheVariants.{Under, Named, Nothing}
 use Rattle.dq_find.specs.declared.open_search.OpenSearch.{OpenSearch}
 use Rattle.dq_find.specs.declared.query.Query.{Query}
 use Rattle.dq_find.specs.Candidates.{named_record, query_candidates}
-use Rattle.dq_find.specs.Queries.{record_answer, records_behind, answers_behind}
+use Rattle.dq_find.specs.Queries.{record_answer, asked_records, records_behind, answers_behind}
 use Rattle.dq_find.specs.StudyImages.{Takes}
 
 -- the records that are still to be looked at
 abbrev pub candidates_left : List Record → Query → SearchCursor → List Record
-candidates_left records query (Studies after) = records_behind after (records_of Study records)
+candidates_left records query (Under after) = records_behind after (asked_records records query)
 candidates_left records query (Named keys from) = filter_map (named_record records query) (drop from keys)
 candidates_left records query Nothing = []
 
@@ -35,7 +33,7 @@ left_of search records =
 
 -- the records that are looked at next, at most so many
 abbrev pub next_candidates : ℕ → List Record → Query → SearchCursor → List Record
-next_candidates most records query (Studies after) = take most (records_behind after (records_of Study records))
+next_candidates most records query (Under after) = take most (records_behind after (asked_records records query))
 next_candidates most records query (Named keys from) =
     filter_map (named_record records query) (take most (drop from keys))
 next_candidates most records query Nothing = []
@@ -47,22 +45,23 @@ last_key (row ∷ []) = Some row.key
 last_key (row ∷ (next ∷ others)) = last_key (next ∷ others)
 
 -- what is left once some rows were looked at
-abbrev pub studies_after : Option (List ℕ) → SearchCursor
-studies_after None = Nothing
-studies_after (Some key) = Studies (Some key)
+abbrev pub under_after : Option (List ℕ) → SearchCursor
+under_after None = Nothing
+under_after (Some key) = Under (Some key)
 
 abbrev pub left_after : ℕ → List Row → SearchCursor → SearchCursor
-left_after most rows (Studies after) = studies_after (last_key rows)
+left_after most rows (Under after) = under_after (last_key rows)
 left_after most rows (Named keys from) = Named keys (from + length (take most (drop from keys)))
 left_after most rows Nothing = Nothing
 
--- These keys, in their order, name the records that a query looks at. A key that no record has names none.
+-- These keys, if there are any, name in their order the records that a query looks at. A key that no record has
+-- names none.
 pub record NamesCandidates {T : Type 0} (state : T → State) (old new : Past T) (query : Query)
-    (result : Result (List (List ℕ)) TableFault) : Type 0 where
+    (result : Result (Option (List (List ℕ))) TableFault) : Type 0 where
   pub same : IsSame old new
   pub reads : Reads (state_in state old) (state_in state new) result
-  pub named : (state_in state new).honest → IfOk result (λ keys.
-      filter_map (named_record (records_in state old) query) keys ≡ query_candidates (records_in state old) query)
+  pub named : (state_in state new).honest → IfOk result (λ few. IfSome few (λ keys.
+      filter_map (named_record (records_in state old) query) keys ≡ query_candidates (records_in state old) query))
 
 -- those of some keys that come behind a key in the order of octets; all where there is no key
 abbrev pub keys_behind : Option (List ℕ) → List (List ℕ) → List (List ℕ)

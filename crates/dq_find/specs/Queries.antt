@@ -1,7 +1,6 @@
 -- Study Root queries (PS3.4 sections C.4.1 and C.6.2).
 use Rattle.std.specs.Prelude.{ℕ, Bool, List, [], ◌∷◌, Option, Some, None, Result, Ok, Err, option_map, codes, is_some, unwrap_or, ◌&&◌, if◌then◌else◌}
-use Rattle.std.specs.List.{filter, filter_map, list_any}
-use Rattle.std.specs.Ordering.{is_gt}
+use Rattle.std.specs.List.{filter_map, list_any}
 use Rattle.dq_vr.specs.declared.Tag.{Tag}
 use Rattle.dq_vr.specs.declared.Vr.TheVariants.{AE, CS}
 use Rattle.dq_vr.specs.Tags as tags
@@ -18,8 +17,9 @@ use Rattle.dq_match.specs.declared.supported.KeyScope.TheVariants.{Identifier}
 use Rattle.dq_match.specs.Identifiers.{is_query}
 use Rattle.dq_match.specs.Supported.{supported_part, has_unsupported}
 use Rattle.dq_match.specs.Answers.{refused_with, answer_to_keys}
-use Rattle.dq_tables.specs.Rows.{Record, octet_order}
+use Rattle.dq_tables.specs.Rows.{Record}
 use Rattle.dq_tables.specs.Lookups.{records_of, records_above}
+pub use Rattle.dq_tables.specs.Lookups.{records_behind}
 use Rattle.dq_tables.specs.Keys.{uid_at}
 use Rattle.dq_tables.specs.declared.row.Kind.TheVariants.{Study as StudyKind, Series as SeriesKind, Image as ImageKind}
 use Rattle.dq_find.specs.declared.level.Level.TheVariants.{Study, Series, Image}
@@ -96,11 +96,6 @@ found_by records called (Ok query) = record {
 
 unfoldable pub query_outcome : List Record → List ℕ → Message → Syntax → Found
 query_outcome records called message syntax = found_by records called (message_query message syntax)
-
--- the records whose unique keys come behind a key in the order of octets; all where there is no key
-abbrev pub records_behind : Option (List ℕ) → List Record → List Record
-records_behind None records = records
-records_behind (Some key) records = filter (λ (r : Record). is_gt (octet_order r.key key)) records
 
 -- The answers that the records behind a key give, in their order. The others still count for what is computed.
 unfoldable pub answers_behind : Option (List ℕ) → List Record → List ℕ → Query → List ElementList

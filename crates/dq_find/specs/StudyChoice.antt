@@ -1,12 +1,10 @@
--- The key, the patient and the day that a query at the level of studies asks for, which are kept
--- beside a study's data set. This is there for the prover: what is answered is
+-- The patient and the day that a query at the level of studies asks for, which are kept beside a study's
+-- data set. This is there for the prover: what is answered is
 -- `answers_of_records` of Queries.
-use Rattle.std.specs.Prelude.{ℕ, Bool, true, not, List, [], ◌∷◌, Option}
-use Rattle.std.specs.Str.{bytes_eq}
+use Rattle.std.specs.Prelude.{ℕ, Bool, true, List, Option, None}
 use Rattle.dq_vr.specs.Tags as tags
 use Rattle.dq_dataset.specs.Tree.{ElementList}
 use Rattle.dq_dataset.specs.Values.{sole_at}
-use Rattle.dq_match.specs.Wildcards.{any_run}
 use Rattle.dq_match.specs.SeveralValues.{is_plain}
 use Rattle.dq_tables.specs.declared.choice.Choice.{Choice}
 use Rattle.dq_tables.specs.Rows.{Record}
@@ -16,19 +14,13 @@ use Rattle.dq_tables.specs.StudyChoices.{is_chosen}
 use Rattle.dq_find.specs.declared.level.Level.{Level}
 use Rattle.dq_find.specs.declared.level.Level.TheVariants.{Study}
 
--- one UID that is no asterisk, and one patient without wild cards
-abbrev pub is_no_asterisk : List ℕ → Bool
-is_no_asterisk uid = not (bytes_eq uid (any_run ∷ []))
-
-abbrev pub uid_asked : ElementList → Option (List ℕ)
-uid_asked keys = value_passing is_no_asterisk (sole_at tags.study_instance_uid keys)
-
+-- one patient without wild cards
 abbrev pub patient_asked : ElementList → Option (List ℕ)
 patient_asked keys = value_passing is_plain (sole_at tags.patient_id keys)
 
--- the choice by these, and by one value of Study Date: one date, or one range of dates
+-- the choice by the patient, and by one value of Study Date: one date, or one range of dates
 unfoldable pub choice_in : ElementList → Choice
-choice_in keys = choice_asking (uid_asked keys) (patient_asked keys) (sole_at tags.study_date keys)
+choice_in keys = choice_asking None (patient_asked keys) (sole_at tags.study_date keys)
 
 -- of other levels every record that is asked for is looked at
 abbrev pub is_asked : Level → ElementList → Record → Bool

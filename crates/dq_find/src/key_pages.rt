@@ -57,7 +57,11 @@ fn answers_behind<T: Tables>(
     let optional = query.optional;
     let mut search = OpenSearch::begin(archive, &[], query, after)?;
     let offset = search.skip(archive, page.offset)?;
-    let mut collector = PageCollector::new(archive.alloc, offset, Some(page.most()));
+    let rest = ShownPage {
+        offset,
+        limit: page.limit,
+    };
+    let mut collector = PageCollector::of_page(archive.alloc, rest);
     search.fill(archive, &mut collector, page.limit)?;
     Ok(Found {
         status: SUCCESS,

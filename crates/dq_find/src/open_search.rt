@@ -7,13 +7,11 @@ ghost use Rattle.dq_archive.specs.PastArchives.{QueriesOnly};
 ghost use Rattle.dq_find.specs.OpenSearches.{Begins, Skips, TakesNext, TakesPage, keys_behind, next_candidates, left_after, left_of, last_key};
 ghost use Rattle.dq_find.specs.StudyImages.{TakesAnswers};
 ghost use Rattle.dq_find.specs.declared.level.Level.TheVariants.{Study};
-ghost use Rattle.dq_find.specs.declared.open_search.SearchCursor.TheVariants.{Studies};
+ghost use Rattle.dq_find.specs.declared.open_search.SearchCursor.TheVariants.{Under};
 
-use crate::computed_keys::octets_at;
 use crate::level::Level;
 use crate::query::Query;
-use crate::search::{Search, looks_up};
-use crate::study_choice::choice_in;
+use crate::search::{Search, few_keys};
 use dq_archive::Past;
 use dq_dataset::DataSet;
 use dq_list::Listed;
@@ -29,8 +27,9 @@ pub(crate) const MOST_AT_ONCE: usize = 256;
 /// The records that a search has still to look at.
 #[derive(Drop)]
 pub(crate) enum SearchCursor {
-    /// All studies in the order of their keys, or those behind a key.
-    Studies(Option<Listed<u8>>),
+    /// The records of the query's level under the unique keys above it, in the order of their keys: all, or those
+    /// behind a key.
+    Under(Option<Listed<u8>>),
     /// The records with some keys, from a place on.
     Named(Listed<Listed<u8>>, usize),
     Nothing,
@@ -64,6 +63,16 @@ fn key_copy(alloc: Global, key: Option<&[u8]>) -> Result<Option<Listed<u8>>, All
     Ok(Some(Listed::copy_of(alloc, key)?))
 }
 
+/// The octets of a key, if there is one.
+pub(crate) fn lent_key(key: &Option<Listed<u8>>) -> Option<&[u8]>
+    ensures { option_copied result ≡ key.now }
+{
+    match key {
+        Some(key) => Some(key.as_slice()),
+        None => None,
+    }
+}
+
 /// Those of some keys that come behind a key in the order of octets; all where there is no key.
 fn keys_behind(keys: Listed<Listed<u8>>, after: Option<&[u8]>) -> Listed<Listed<u8>>
     ensures { result ≡ keys_behind (option_copied after.entry) keys }
@@ -77,7 +86,7 @@ fn keys_behind(keys: Listed<Listed<u8>>, after: Option<&[u8]>) -> Listed<Listed<
 }
 
 /// The key of the last of some rows.
-fn last_key(rows: Listed<Row>) -> Option<Listed<u8>>
+pub(crate) fn last_key(rows: Listed<Row>) -> Option<Listed<u8>>
     ensures { result ≡ last_key rows }
 {
     let mut rows = rows.into_inner();
@@ -85,40 +94,19 @@ fn last_key(rows: Listed<Row>) -> Option<Listed<u8>>
     Some(last.key)
 }
 
-/// Whether a query looks at all studies: it names none, and asks nothing of the patient and the day.
-fn scans_studies(alloc: Global, query: &Query) -> Result<bool, AllocError>
-    ensures { IfOk result (λ scans. scans ≡ true → query.now.level ≡ Study) }
-{
-    match query.level {
-        Level::Series | Level::Image => Ok(false),
-        Level::Study => {
-            let choice = choice_in(alloc, &query.keys)?;
-            let values = octets_at(&query.keys, query.level.unique_key());
-            Ok(
-                !looks_up(query.level, values)
-                    && choice.uid.is_none()
-                    && choice.patient.is_none()
-                    && choice.first_day.is_none()
-                    && choice.last_day.is_none(),
-            )
-        }
-    }
-}
-
 impl SearchCursor {
-    /// Whether all studies are left.
-    fn is_at_first_study(&self) -> bool
-        ensures { result ≡ true → self.now ≡ Studies None }
+    /// Whether it is before the first of all records under the unique keys above.
+    fn is_at_first(&self) -> bool
+        ensures { result ≡ true → self.now ≡ Under None }
     {
         match self {
-            SearchCursor::Studies(None) => true,
-            SearchCursor::Studies(Some(_)) | SearchCursor::Named(_, _) | SearchCursor::Nothing =>
+            SearchCursor::Under(None) => true,
+            SearchCursor::Under(Some(_)) | SearchCursor::Named(_, _) | SearchCursor::Nothing =>
                 false,
         }
     }
 
     /// The rows that are looked at next, at most so many.
-    #[tactic(auto, unfolding(dq_tables::specs::Lookups::records_after))]
     fn next_rows<T: Tables>(
         &self,
         archive: &mut Past<'_, T>,
@@ -130,12 +118,7 @@ impl SearchCursor {
             (next_candidates most records search.now.query.now self.now)) result }
     {
         match self {
-            SearchCursor::Studies(None) => archive.rows_from(Kind::Study, 0, most),
-            SearchCursor::Studies(Some(key)) => archive.rows_after(
-                Kind::Study,
-                key.as_slice(),
-                most,
-            ),
+            SearchCursor::Under(after) => search.rows_behind(archive, lent_key(after), most),
             SearchCursor::Named(keys, from) => {
                 let next = part(keys.as_slice(), *from, most);
                 search.rows_with(archive, next)
@@ -149,9 +132,9 @@ impl SearchCursor {
         ensures { self.new ≡ left_after most rows self.old }
     {
         match self {
-            SearchCursor::Studies(_) => {
+            SearchCursor::Under(_) => {
                 *self = match last_key(rows) {
-                    Some(key) => SearchCursor::Studies(Some(key)),
+                    Some(key) => SearchCursor::Under(Some(key)),
                     None => SearchCursor::Nothing,
                 };
             }
@@ -177,26 +160,26 @@ impl OpenSearch {
         keys_are_met_alone_and_as_a_period();
         query.keys.has_facts();
         let called = Listed::copy_of(archive.alloc, called)?;
-        if scans_studies(archive.alloc, &query)? {
+        let Some(keys) = few_keys(archive, &query)? else {
             let behind = key_copy(archive.alloc, after)?;
             return Ok(OpenSearch {
                 called,
                 query,
-                cursor: SearchCursor::Studies(behind),
+                cursor: SearchCursor::Under(behind),
             });
-        }
-        let prepared = PreparedKeys::of(archive.alloc, &query.keys)?;
-        let search = Search {
-            called: called.as_slice(),
-            query: &query,
-            prepared: &prepared,
         };
-        let keys = search.keys(archive)?;
         Ok(OpenSearch {
             called,
             query,
             cursor: SearchCursor::Named(keys_behind(keys, after), 0),
         })
+    }
+
+    /// Whether all studies are left.
+    fn is_at_first_study(&self) -> bool
+        ensures { result ≡ true → (self.now.cursor ≡ Under None) × (self.now.query.level ≡ Study) }
+    {
+        self.query.level == Level::Study && self.cursor.is_at_first()
     }
 
     /// Passes over the first answers, so many, with one look, if each study is an answer since nothing is
@@ -210,7 +193,7 @@ impl OpenSearch {
     {
         honest_rows_are_sound::<T>();
         universal_keys_are_met();
-        if count == 0 || !self.cursor.is_at_first_study() || !asks_nothing(&self.query.keys) {
+        if count == 0 || !self.is_at_first_study() || !asks_nothing(&self.query.keys) {
             return Ok(count);
         }
         let rows = archive.rows_from(Kind::Study, count - 1, 1)?;
@@ -228,7 +211,7 @@ impl OpenSearch {
         requires known { HasKnownTags self.old.query.keys }
         ensures { TakesPage T.state archive.old archive.new most self.old self.new result }
     {
-        let mut page = PageCollector::new(archive.alloc, 0, None);
+        let mut page = PageCollector::of_all(archive.alloc);
         self.take_next(archive, &mut page, most)?;
         Ok(page.into_answers())
     }
@@ -284,7 +267,7 @@ impl OpenSearch {
         ensures { result ≡ true → (records : List Record) → left_of self.now records ≡ [] }
     {
         match &self.cursor {
-            SearchCursor::Studies(_) => false,
+            SearchCursor::Under(_) => false,
             SearchCursor::Named(keys, from) => keys.len() <= *from,
             SearchCursor::Nothing => true,
         }

@@ -1,12 +1,16 @@
 //! The answers to a query (PS3.4 sections C.4.1.3 and C.6.2).
-ghost use Rattle.std.specs.Prelude.{◌≡◌, false, IfOk, List, None, map, filter, option_map};
+ghost use Rattle.std.specs.Prelude.{◌≡◌, false, IfOk, List, None, map, take, option_map};
+ghost use Rattle.std.specs.Option.{option_copied};
 ghost use Rattle.std.specs.List.{filter_map};
 ghost use Rattle.dq_list.specs.Octets.{octets_of_vectors};
 ghost use Rattle.dq_match.specs.Identifiers.{HasKnownTags};
 ghost use Rattle.dq_tables.specs.Rows.{Record, record_of, row_of};
-ghost use Rattle.dq_archive.specs.PastArchives.{QueriesOnly};
-ghost use Rattle.dq_find.specs.StudyChoice.{is_asked};
-ghost use Rattle.dq_find.specs.Candidates.{looks_up, is_under, named_record, named_rows, looked_up};
+ghost use Rattle.dq_tables.specs.declared.row.Kind.TheVariants.{Study as StudyKind};
+ghost use Rattle.dq_tables.specs.Lookups.{records_of, records_behind};
+ghost use Rattle.dq_tables.specs.StudyChoices.{studies_among};
+ghost use Rattle.dq_archive.specs.PastArchives.{QueriesOnly, QueriesFew};
+ghost use Rattle.dq_find.specs.StudyChoice.{choice_in};
+ghost use Rattle.dq_find.specs.Candidates.{names_records, is_under, named_record, named_rows, looked_up};
 ghost use Rattle.dq_find.specs.OpenSearches.{NamesCandidates};
 ghost use Rattle.dq_find.specs.StudyImages.{TakesAnswers};
 ghost use Rattle.dq_find.specs.ComputedKeys.{computed_keys};
@@ -89,6 +93,9 @@ pub(crate) fn key_above(keys: &DataSet, tag: Tag) -> &[u8]
     }
 }
 
+/// A search that asks something of the studies chooses among them at once where the institution has fewer.
+const FEW_STUDIES: usize = 1000;
+
 /// Some keys, in their order.
 fn key_list(alloc: Global, mut uids: BTreeSet<Vec<u8>>) -> Result<Listed<Listed<u8>>, AllocError>
     ensures { IfOk result (λ keys. keys ≡ octets_of_vectors uids.keys) }
@@ -111,6 +118,63 @@ fn keys_of(alloc: Global, rows: Listed<Row>) -> Result<Listed<Listed<u8>>, Alloc
     Ok(keys)
 }
 
+/// The studies with keys behind a key, or all without a key, at most so many, in the order of their keys.
+#[tactic(auto, unfolding(dq_tables::specs::Lookups::records_after))]
+fn studies_behind<T: Tables>(
+    archive: &mut Past<'_, T>,
+    after: Option<&[u8]>,
+    most: usize,
+) -> Result<Listed<Row>, TableFault>
+    ensures { QueriesOnly T.state archive.old archive.new (λ records.
+        map (row_of archive.old.institution.now.name) (take most
+        (records_behind (option_copied after.entry) (records_of StudyKind records)))) result }
+{
+    match after {
+        None => archive.rows_from(Kind::Study, 0, most),
+        Some(key) => archive.rows_after(Kind::Study, key, most),
+    }
+}
+
+/// The keys of the studies that the choice of a query takes, in their order. There may be no answer where the
+/// institution has many studies, and there is none where the choice takes them all.
+fn chosen_keys<T: Tables>(
+    archive: &mut Past<'_, T>,
+    query: &Query,
+) -> Result<Option<Listed<Listed<u8>>>, TableFault>
+    ensures { QueriesFew T.state archive.old archive.new (λ records.
+        map (λ (r : Record). r.key) (studies_among (choice_in query.now.keys) records)) result }
+{
+    let choice = choice_in(archive.alloc, &query.keys)?;
+    if choice.patient.is_none() && choice.first_day.is_none() && choice.last_day.is_none() {
+        return Ok(None);
+    }
+    match archive.few_studies_in(&choice, FEW_STUDIES)? {
+        Some(rows) => Ok(Some(keys_of(archive.alloc, rows)?)),
+        None => Ok(None),
+    }
+}
+
+/// The keys of the records that are looked at, if they are known at once. If the query gives its level's own unique
+/// key values, it is these, since no record without one of them can match; of few studies it is the keys of those
+/// that the choice takes.
+pub(crate) fn few_keys<T: Tables>(
+    archive: &mut Past<'_, T>,
+    query: &Query,
+) -> Result<Option<Listed<Listed<u8>>>, TableFault>
+    ensures { NamesCandidates T.state archive.old archive.new query.now result }
+{
+    honest_rows_are_sound::<T>();
+    let values = octets_at(&query.keys, query.level.unique_key());
+    if names_records(values) {
+        let uids = in_order(archive.alloc, Vr::UI, values)?;
+        return Ok(Some(key_list(archive.alloc, uids)?));
+    }
+    match query.level {
+        Level::Study => chosen_keys(archive, query),
+        Level::Series | Level::Image => Ok(None),
+    }
+}
+
 /// A query with its keys, read once for all records, and the title that was called.
 #[derive(Clone, Copy)]
 pub(crate) struct Search<'a> {
@@ -120,27 +184,28 @@ pub(crate) struct Search<'a> {
 }
 
 impl Search<'_> {
-    /// The records of the level under the unique keys above it. Of studies, only those that can fit
-    /// what is asked of their key, their patient and their day.
-    fn asked_rows<T: Tables>(&self, archive: &mut Past<'_, T>) -> Result<Listed<Row>, TableFault>
+    /// The records of the level under the unique keys above it, of those with keys behind a key, or of all without a
+    /// key, at most so many, in the order of their keys.
+    pub(crate) fn rows_behind<T: Tables>(
+        &self,
+        archive: &mut Past<'_, T>,
+        after: Option<&[u8]>,
+        most: usize,
+    ) -> Result<Listed<Row>, TableFault>
         ensures { QueriesOnly T.state archive.old archive.new (λ records.
-            map (row_of archive.old.institution.now.name)
-            (filter (is_asked self.now.query.now.level self.now.query.now.keys)
-            (asked_records records self.now.query.now))) result }
+            map (row_of archive.old.institution.now.name) (take most
+            (records_behind (option_copied after.entry) (asked_records records self.now.query.now)))) result }
     {
         let keys = &self.query.keys;
         match self.query.level {
-            Level::Study => {
-                let choice = choice_in(archive.alloc, keys)?;
-                archive.studies_in(&choice)
-            }
+            Level::Study => studies_behind(archive, after, most),
             Level::Series => {
                 let study = key_above(keys, tags::STUDY_INSTANCE_UID);
-                archive.rows_above(Kind::Series, study)
+                archive.rows_above_after(Kind::Series, study, after, most)
             }
             Level::Image => {
                 let series = key_above(keys, tags::SERIES_INSTANCE_UID);
-                archive.rows_above(Kind::Image, series)
+                archive.rows_above_after(Kind::Image, series, after, most)
             }
         }
     }
@@ -198,25 +263,6 @@ impl Search<'_> {
             }
         }
         Ok(rows)
-    }
-
-    /// The keys of the records that are looked at. Where the query gives its level's own unique key
-    /// values it is these, since no record without one of them can match; else those of the records that
-    /// the choice takes.
-    pub(crate) fn keys<T: Tables>(
-        &self,
-        archive: &mut Past<'_, T>,
-    ) -> Result<Listed<Listed<u8>>, TableFault>
-        ensures { NamesCandidates T.state archive.old archive.new self.now.query.now result }
-    {
-        honest_rows_are_sound::<T>();
-        let values = octets_at(&self.query.keys, self.query.level.unique_key());
-        if looks_up(self.query.level, values) {
-            let uids = in_order(archive.alloc, Vr::UI, values)?;
-            return Ok(key_list(archive.alloc, uids)?);
-        }
-        let rows = self.asked_rows(archive)?;
-        Ok(keys_of(archive.alloc, rows)?)
     }
 
     /// Returns the computed elements of the record of the level with the key.
@@ -321,18 +367,15 @@ impl Search<'_> {
     }
 }
 
-/// Whether values of a level's own unique key are looked up: there are some, and the first is no
-/// asterisk, which every record meets where it stands alone. One study is chosen instead.
-pub(crate) fn looks_up(level: Level, octets: &[u8]) -> bool
-    ensures { result ≡ looks_up level (element_values UI octets.now) }
+/// Whether values of a level's own unique key name records: there are some, and the first is not an asterisk, which
+/// every record meets if it is the only value.
+fn names_records(octets: &[u8]) -> bool
+    ensures { result ≡ names_records (element_values UI octets.now) }
 {
     let mut uids = values(Vr::UI, octets);
     let Some(first) = uids.next() else {
         return false;
     };
-    if level == Level::Study && uids.next().is_none() {
-        return false;
-    }
     first != b"*".as_slice()
 }
 

@@ -1,8 +1,8 @@
-//! The key, the patient and the day that a query at the level of studies asks for, which are kept
-//! beside a study's data set.
+//! The patient and the day that a query at the level of studies asks for, which are kept beside a study's
+//! data set.
 ghost use Rattle.std.specs.Prelude.{◌≡◌, IfOk};
 ghost use Rattle.std.specs.Option.{option_copied};
-ghost use Rattle.dq_find.specs.StudyChoice.{uid_asked, patient_asked, choice_in};
+ghost use Rattle.dq_find.specs.StudyChoice.{patient_asked, choice_in};
 
 use dq_dataset::DataSet;
 use dq_match::is_plain;
@@ -16,19 +16,7 @@ pub(crate) fn choice_in(alloc: Global, keys: &DataSet) -> Result<Choice, AllocEr
     ensures { IfOk result (λ choice. choice ≡ choice_in keys.now) }
 {
     let date = keys.sole_value(tags::STUDY_DATE);
-    Choice::asking(alloc, uid_asked(keys), patient_asked(keys), date)
-}
-
-/// The only study that is asked for. An asterisk asks for all.
-fn uid_asked(keys: &DataSet) -> Option<&[u8]>
-    ensures { option_copied result ≡ uid_asked keys.now }
-{
-    let uid = keys.sole_value(tags::STUDY_INSTANCE_UID)?;
-    if uid == b"*".as_slice() {
-        None
-    } else {
-        Some(uid)
-    }
+    Choice::asking(alloc, None, patient_asked(keys), date)
 }
 
 /// The only patient that is asked for, without wild cards.

@@ -4,13 +4,16 @@ ghost use Rattle.std.specs.List.{filter_map};
 ghost use Rattle.dq_match.specs.Identifiers.{HasKnownTags};
 ghost use Rattle.dq_match.specs.ShownPages.{found_page};
 ghost use Rattle.dq_tables.specs.Rows.{of, record_of};
+ghost use Rattle.dq_tables.specs.Lookups.{records_above};
+ghost use Rattle.dq_tables.specs.declared.row.Kind.TheVariants.{Image as ImageKind};
 ghost use Rattle.dq_tables.specs.TableStates.{Reads};
 ghost use Rattle.dq_archive.specs.PastArchives.{QueriesOnly};
 ghost use Rattle.dq_find.specs.Levels.{level_of};
 ghost use Rattle.dq_find.specs.Queries.{record_answer};
-ghost use Rattle.dq_find.specs.StudyImages.{query_in_study, images_of, found_in_study, study_outcome, TakesAnswers};
+ghost use Rattle.dq_find.specs.StudyImages.{query_in_study, images_of, images_in_study, found_in_study, study_outcome, TakesAnswers};
 
 use crate::level::Level;
+use crate::open_search::{MOST_AT_ONCE, last_key, lent_key};
 use crate::query::Query;
 use crate::search::{Search, key_above};
 use dq_archive::Past;
@@ -18,6 +21,7 @@ use dq_config::Institution;
 use dq_dataset::DataSet;
 use dq_dimse::status::{DOES_NOT_MATCH_SOP_CLASS, SUCCESS};
 use dq_match::{Found, PageCollector, PreparedKeys, ShownPage, is_query, strike};
+use dq_tables::laws::honest_rows_are_sound;
 use dq_tables::{Kind, Row, TableFault, Tables};
 use dq_vr::tags;
 use std::alloc::{AllocError, Global};
@@ -83,9 +87,8 @@ fn answers_in_study<T: Tables>(
         prepared: &prepared,
     };
     let study = key_above(&query.keys, tags::STUDY_INSTANCE_UID);
-    let series = archive.rows_above(Kind::Series, study)?;
-    let mut collector = PageCollector::new(archive.alloc, page.offset, Some(page.most()));
-    take_images(&search, archive, series.as_slice(), &mut collector)?;
+    let mut collector = PageCollector::of_page(archive.alloc, page);
+    take_study(&search, archive, study, &mut collector)?;
     Ok(Found {
         status: SUCCESS,
         optional: query.optional,
@@ -93,9 +96,40 @@ fn answers_in_study<T: Tables>(
     })
 }
 
+/// Takes the answers that the images of a study give, those of one series after the other. Reads a few series at a time,
+/// and none once the page is full.
+fn take_study<T: Tables>(
+    search: &Search<'_>,
+    archive: &mut Past<'_, T>,
+    study: &[u8],
+    page: &mut PageCollector,
+) -> Result<(), TableFault>
+    requires known { HasKnownTags search.now.query.now.keys }
+    requires prepared { search.now.prepared.now ≡ search.now.query.now.keys }
+    ensures { TakesAnswers T.state archive.old archive.new page.old page.new (λ records. filter_map
+        (record_answer records search.now.called.now search.now.query.now)
+        (images_in_study records study.now)) result }
+{
+    honest_rows_are_sound::<T>();
+    let mut after = None;
+    for _ in 0..u64::MAX {
+        if page.is_full() {
+            return Ok(());
+        }
+        let behind = lent_key(&after);
+        let series = archive.rows_above_after(Kind::Series, study, behind, MOST_AT_ONCE)?;
+        take_each_series(search, archive, series.as_slice(), page)?;
+        if series.len() < MOST_AT_ONCE {
+            return Ok(());
+        }
+        after = last_key(series);
+    }
+    Err(TableFault::NoMemory)
+}
+
 /// Takes the answers that the images of some series give, those of one series after the other. No series is looked at
 /// once the page is full.
-fn take_images<T: Tables>(
+fn take_each_series<T: Tables>(
     search: &Search<'_>,
     archive: &mut Past<'_, T>,
     series: &[Row],
@@ -111,8 +145,37 @@ fn take_images<T: Tables>(
         if page.is_full() {
             return Ok(());
         }
-        let images = archive.rows_above(Kind::Image, row.key.as_slice())?;
-        search.take_answers(archive, images.as_slice(), page)?;
+        take_series(search, archive, row.key.as_slice(), page)?;
     }
     Ok(())
+}
+
+/// Takes the answers that the images of a series give. Reads a few images at a time, and none once the page is full.
+fn take_series<T: Tables>(
+    search: &Search<'_>,
+    archive: &mut Past<'_, T>,
+    series: &[u8],
+    page: &mut PageCollector,
+) -> Result<(), TableFault>
+    requires known { HasKnownTags search.now.query.now.keys }
+    requires prepared { search.now.prepared.now ≡ search.now.query.now.keys }
+    ensures { TakesAnswers T.state archive.old archive.new page.old page.new (λ records. filter_map
+        (record_answer records search.now.called.now search.now.query.now)
+        (records_above ImageKind series.now records)) result }
+{
+    honest_rows_are_sound::<T>();
+    let mut after = None;
+    for _ in 0..u64::MAX {
+        if page.is_full() {
+            return Ok(());
+        }
+        let behind = lent_key(&after);
+        let images = archive.rows_above_after(Kind::Image, series, behind, MOST_AT_ONCE)?;
+        search.take_answers(archive, images.as_slice(), page)?;
+        if images.len() < MOST_AT_ONCE {
+            return Ok(());
+        }
+        after = last_key(images);
+    }
+    Err(TableFault::NoMemory)
 }

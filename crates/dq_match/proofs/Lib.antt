@@ -8,6 +8,7 @@ mod MetAsLent
 mod Moments
 mod NamePads
 mod Names
+mod Pages
 mod PiecesInText
 mod PreparedCounts
 mod Scanning

@@ -1,5 +1,5 @@
 //! Laws of the definitions, which the contracts of functions with no body name.
-ghost use Rattle.std.specs.Prelude.{◌≡◌, ◌↔◌, ◌⊎◌, ◌≤◌, ◌≤ℤ◌, ◌<ℤ◌, true, false, ◌&&◌, ℕ, ℤ, List, [], ◌∷◌, ◌++◌, Some, None, map, filter};
+ghost use Rattle.std.specs.Prelude.{◌≡◌, ◌↔◌, ◌⊎◌, ◌+◌, ◌<◌, ◌≤◌, ◌≤ℤ◌, ◌<ℤ◌, true, false, ◌&&◌, ℕ, ℤ, min, List, [], ◌∷◌, ◌++◌, Some, None, map, filter, length, drop};
 ghost use Rattle.dq_vr.specs.declared.Vr.{Vr};
 ghost use Rattle.dq_dataset.specs.Tree.{ElementList, ItemList, item};
 ghost use Rattle.dq_dataset.specs.View.{elements_of};
@@ -24,6 +24,8 @@ ghost use Rattle.dq_match.specs.Universal.{all_universal, asks_nothing};
 ghost use Rattle.dq_match.specs.Supported.{is_supported, supported_part, supported_value, supported_element, has_unsupported};
 ghost use Rattle.dq_match.specs.Responses.{no_value, character_set, cut_keys, before, shown_element, shown_elements, shown_data_set};
 ghost use Rattle.dq_match.specs.ShownTags.{tags_of, set_tags};
+ghost use Rattle.dq_match.specs.declared.shown_page.ShownPage.{ShownPage};
+ghost use Rattle.dq_match.specs.ShownPages.{page_most, page_octets, octets_of_answers, shown_page, is_filled};
 
 use dq_value::range_law;
 
@@ -194,4 +196,21 @@ pub fn what_is_asked_is_shown()
     ensures { (identifier held : ElementList)
         → tags_of (shown_data_set identifier held)
         ≡ set_tags (character_set held) (filter (is_key Outer) (tags_of identifier)) }
+{}
+
+/// A page shows answers from its offset on, in their order, and a page at the offset behind them goes on
+/// with the next one. They are no more than its limit and 1,000, and those before the last have less than
+/// 8 MiB. There is one where there may be one. A page that they do not fill shows all that there are.
+pub fn a_page_ends_where_it_is_filled()
+    ensures goes_on { (page : ShownPage) (all : List ElementList)
+        → shown_page page all ++ drop (page.offset + length (shown_page page all)) all
+        ≡ drop page.offset all }
+    ensures few { (page : ShownPage) (all : List ElementList)
+        → length (shown_page page all) ≤ min page.limit page_most }
+    ensures short { (page : ShownPage) (all before : List ElementList) (last : ElementList)
+        → shown_page page all ≡ before ++ last ∷ [] → octets_of_answers before < page_octets }
+    ensures one { (page : ShownPage) (all : List ElementList)
+        → 0 < page.limit → page.offset < length all → 0 < length (shown_page page all) }
+    ensures all { (page : ShownPage) (all : List ElementList)
+        → is_filled page (shown_page page all) ≡ false → shown_page page all ≡ drop page.offset all }
 {}

@@ -1,29 +1,77 @@
 //! Collects a page of answers that come one after the other.
-ghost use Rattle.std.specs.Prelude.{◌≡◌, [], true, List, IfOk};
+ghost use Rattle.std.specs.Prelude.{◌≡◌, ◌-◌, [], true, None, Some, List, min, not, IfOk};
 ghost use Rattle.std.specs.List.{cons_option};
 ghost use Rattle.dq_dataset.specs.Tree.{ElementList};
-ghost use Rattle.dq_match.specs.Parts.{with_others};
+ghost use Rattle.dq_match.specs.Parts.{has_room, with_others};
+ghost use Rattle.dq_match.specs.ShownPages.{answer_octets, page_most, page_octets};
 
+use crate::shown_page::{PAGE_OCTETS, ShownPage, octets_of_answer};
 use dq_dataset::DataSet;
 use dq_list::Listed;
 use std::alloc::{AllocError, Global};
 
-/// A page of the answers to a query: those from a place on, at most so many where there is a most.
+/// What a page has still room for: so many answers, as long as they have so many octets to fill.
+#[derive(Clone, Copy)]
+pub(crate) struct PageRoom {
+    answers: usize,
+    octets: u32,
+}
+
+impl PageRoom {
+    fn is_used_up(self) -> bool
+        ensures { result ≡ not (has_room self) }
+    {
+        self.answers == 0 || self.octets == 0
+    }
+
+    /// What is left of it with an answer more.
+    fn without(self, answer: &DataSet) -> PageRoom
+        ensures { result ≡ record {
+          answers = self.answers - 1;
+          octets = self.octets - answer_octets answer.now;
+        } }
+    {
+        PageRoom {
+            answers: self.answers.saturating_sub(1),
+            octets: self.octets.saturating_sub(octets_of_answer(answer)),
+        }
+    }
+}
+
+/// All answers to a query, or a page of them.
 #[derive(Drop)]
 pub struct PageCollector {
     before: usize,
-    left: Option<usize>,
+    left: Option<PageRoom>,
     answers: Listed<DataSet>,
 }
 
 impl PageCollector {
-    /// The page from a place on, which has no answer yet.
-    pub fn new(alloc: Global, from: usize, most: Option<usize>) -> PageCollector
-        ensures { result ≡ record { before = from; left = most; answers = [] } }
+    /// Takes all answers.
+    pub fn of_all(alloc: Global) -> PageCollector
+        ensures { result ≡ record { before = 0; left = None; answers = [] } }
     {
         PageCollector {
-            before: from,
-            left: most,
+            before: 0,
+            left: None,
+            answers: Listed::empty(alloc),
+        }
+    }
+
+    /// Takes the answers of a page.
+    pub fn of_page(alloc: Global, page: ShownPage) -> PageCollector
+        ensures { result ≡ record {
+          before = page.offset;
+          left = Some (record { answers = min page.limit page_most; octets = page_octets });
+          answers = [];
+        } }
+    {
+        PageCollector {
+            before: page.offset,
+            left: Some(PageRoom {
+                answers: page.most(),
+                octets: PAGE_OCTETS,
+            }),
             answers: Listed::empty(alloc),
         }
     }
@@ -33,7 +81,10 @@ impl PageCollector {
         ensures { result ≡ true → (others : List ElementList)
             → with_others self.now others ≡ self.now.answers }
     {
-        self.left == Some(0)
+        match self.left {
+            Some(room) => room.is_used_up(),
+            None => false,
+        }
     }
 
     /// Takes the answer that comes next, where there is one and it is of the page.
@@ -49,8 +100,8 @@ impl PageCollector {
             return Ok(());
         }
         match self.left {
-            Some(0) => return Ok(()),
-            Some(left) => self.left = Some(left - 1),
+            Some(room) if room.is_used_up() => return Ok(()),
+            Some(room) => self.left = Some(room.without(&answer)),
             None => {}
         }
         self.answers.push(answer)?;

@@ -20,15 +20,19 @@ patient_tests = column_is 1 0 ∷ column_is 2 1 ∷ op2 (Compare Eq Binary) (col
 abbrev pub days_tests : List Term
 days_tests = column_is 1 0 ∷ column_is 2 1 ∷ op2 (Compare Le Binary) (col 0 2) (col 1 6) ∷ op2 (Compare Le Binary) (col 1 6) (col 0 3) ∷ []
 
+-- the rows that pass tests, in any order: as many as a parameter says
+abbrev pub some_of : List Term → ℕ → Query
+some_of tests limit = record (selecting 0 tests None shown_columns []) { limit = col 0 limit }
+
 -- the first rows by a column, as many as the third parameter says, with that column after the others
 abbrev pub first_by : ℕ → Query
 first_by at = record (selecting 0 of_tests None (shown_columns ++ col 1 at ∷ []) ((col 1 at, ascending Binary) ∷ [])) { limit = col 0 2 }
 
 abbrev pub patient_text : List ℕ
-patient_text = codes "SELECT id, above, octets, started FROM kept WHERE kind = ?1 AND inst = ?2 AND ?3 = patient"
+patient_text = codes "SELECT id, above, octets, started FROM kept WHERE kind = ?1 AND inst = ?2 AND ?3 = patient LIMIT ?4"
 
 abbrev pub days_text : List ℕ
-days_text = codes "SELECT id, above, octets, started FROM kept WHERE kind = ?1 AND inst = ?2 AND ?3 <= day AND day <= ?4"
+days_text = codes "SELECT id, above, octets, started FROM kept WHERE kind = ?1 AND inst = ?2 AND ?3 <= day AND day <= ?4 LIMIT ?5"
 
 abbrev pub no_patient_text : List ℕ
 no_patient_text = codes "SELECT id, above, octets, started, patient FROM kept WHERE kind = ?1 AND inst = ?2 ORDER BY patient LIMIT ?3"
@@ -36,7 +40,7 @@ no_patient_text = codes "SELECT id, above, octets, started, patient FROM kept WH
 abbrev pub no_day_text : List ℕ
 no_day_text = codes "SELECT id, above, octets, started, day FROM kept WHERE kind = ?1 AND inst = ?2 ORDER BY day LIMIT ?3"
 
-pub patient_means : Means Two patient_text (selecting 0 patient_tests None shown_columns [])
+pub patient_means : Means Two patient_text (some_of patient_tests 3)
 unfolding understood everything schema_of
 patient_means = record { names = names; is = refl; plain = (refl, refl); unlisted = refl }
 
@@ -47,7 +51,7 @@ patient_bare schema base = refl
 pub patient_silent : ShowsNoWrite patient_text
 patient_silent = bare_shows patient_text patient_bare
 
-pub days_means : Means Two days_text (selecting 0 days_tests None shown_columns [])
+pub days_means : Means Two days_text (some_of days_tests 4)
 unfolding understood everything schema_of
 days_means = record { names = names; is = refl; plain = (refl, refl); unlisted = refl }
 

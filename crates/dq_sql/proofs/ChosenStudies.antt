@@ -1,15 +1,19 @@
 -- What is read of the studies that a choice takes.
-use Rattle.std.proofs.Common.{◌≡◌, ℕ, ℤ, pos, Bool, true, false, not, ◌&&◌, List, [], ◌∷◌, ◌++◌, None, Some, Option, is_some, unwrap_or, option_to_list, map, filter, IfSome, IfOk, Result, Ok, Err, refl, sym, ◌∙◌, ap, subst}
+use Rattle.std.proofs.Common.{◌≡◌, ℕ, ℤ, pos, Bool, true, false, not, ◌&&◌, ◌<◌, ◌≤◌, List, [], ◌∷◌, ◌++◌, None, Some, Option, MatchOption, is_some, unwrap_or, option_to_list, map, filter, length, IfOk, Result, Ok, Err, refl, sym, ◌∙◌, ap, subst, arith}
+use Rattle.std.specs.Global.{Vec}
 use Rattle.std.specs.List.Sorted.{IsPermutation, IsSortedByKey}
 use Rattle.std.specs.Str.{bytes_eq}
 use Rattle.std.proofs.lemmas.Bool.{and_parts}
 use Rattle.std.proofs.lemmas.List.{map-append}
 use Rattle.std.proofs.lemmas.List.Elements.{filter_agree}
+use Rattle.std.proofs.lemmas.List.Filters.{length-filter_both}
 use Rattle.std.proofs.lemmas.List.Sorted.{IsPermutation-trans, IsPermutation-append, IsPermutation-filter_both}
 use Rattle.sqlite_value.specs.declared.value.Value.TheVariants.{Int, Blob}
+use Rattle.sqlite_value.specs.declared.keys.Collation.TheVariants.{Binary}
+use Rattle.sqlite_value.specs.Keys.{ascending}
 use Rattle.sqlite_value.specs.Order.{Row as Values, column}
 use Rattle.sqlite_sql.specs.Ops.{is_null}
-use Rattle.sqlite_sql.specs.Term.{Term}
+use Rattle.sqlite_sql.specs.Term.{Term, col, eval}
 use Rattle.sqlite.specs.State.{State, Shown}
 use Rattle.dq_tables.specs.declared.choice.Choice.{Choice}
 use Rattle.dq_tables.specs.declared.row.Kind.TheVariants.{Study}
@@ -25,51 +29,104 @@ use Rattle.dq_sql.specs.declared.study_index.Label.TheVariants.{Patient, Day}
 use Rattle.dq_sql.specs.declared.version.Version.TheVariants.{Two}
 use Rattle.dq_sql.specs.Tie.{row_of_cells, IsKeptRow}
 use Rattle.dq_sql.specs.RowReads.{ShowsNoWrite, HoldsOf, row_shown}
-use Rattle.dq_sql.specs.StudyIndex.{says, is_of_patient, is_of_days, ShowsThose, ShowsSaying, ShowsSilent, EndsWithin, last_day_or_blob}
-use Rattle.dq_sql.proofs.Queries.{Means, selecting, shown_columns}
-use Rattle.dq_sql.proofs.SelectAnswers.{passes, selection}
+use Rattle.dq_sql.specs.StudyIndex.{says, is_of_patient, is_of_days, ShowsThose, ShowsSaying, ShowsSilent, FindsFew, EndsWithin, last_day_or_blob}
+use Rattle.dq_sql.proofs.Queries.{Means, of_tests, shown_columns}
+use Rattle.dq_sql.proofs.SelectAnswers.{passes, selection, unlimited, without_limit}
+use Rattle.dq_sql.proofs.LimitedRows.{no_more, all_answered}
 use Rattle.dq_sql.proofs.FoundRows.{found_rows}
 use Rattle.dq_sql.proofs.KeyOrder.{key_of, in_key_order}
 use Rattle.dq_sql.proofs.Firsts.{silent_rows}
 use Rattle.dq_sql.proofs.ReadOnlyQueries.{shown_unchanged}
-use Rattle.dq_sql.proofs.ReadRows.{answer_of, of_params, of_finds, of_own, and_own}
+use Rattle.dq_sql.proofs.ReadRows.{answer_of, of_params, of_finds, of_own, and_own, holds_weaker}
 use Rattle.dq_sql.proofs.StudyTests.{AreNatural, patient_finds, days_find, unsaid_patient, unsaid_day, is_from, is_until, and_false}
-use Rattle.dq_sql.proofs.ChoiceTexts.{first_by, patient_text, patient_tests, patient_means, patient_silent, days_text, days_tests, days_means, days_silent, no_patient_text, no_patient_means, no_patient_silent, no_day_text, no_day_means, no_day_silent}
+use Rattle.dq_sql.proofs.ChoiceTexts.{some_of, first_by, patient_text, patient_tests, patient_means, patient_silent, days_text, days_tests, days_means, days_silent, no_patient_text, no_patient_means, no_patient_silent, no_day_text, no_day_means, no_day_silent}
 
 -- ---- one query
 
-module _ (old new : State) (inst : List ℕ) (answer : List Values) where
-  shows_those : (text : List ℕ) (tests : List Term) → Means Two text (selecting 0 tests None shown_columns []) → ShowsNoWrite text → (params : Values) (test : Row → Bool)
-      → ((r : Values) → IsKeptRow r → passes tests params r ≡ (is_of_kind Study inst (row_of_cells r) && test (row_of_cells r)))
-      → Shown text params old new answer → HoldsOf old (λ rows. ShowsThose inst test rows answer)
+fewer_pass : {X : Type 0} (p : X → Bool) (xs : List X) → length (filter p xs) ≤ length xs
+fewer_pass p xs =
+    let n = length-filter_both p (λ x. not (p x)) (λ x. refl) xs in
+    omega (arith, n)
+
+-- All studies that pass, if so few are answered, and never more than the institution has.
+record FewThose (inst : List ℕ) (test : Row → Bool) (many : ℕ) (answer : List Values) (rows : List Row) : Type 0 where
+  all : length answer < many → ShowsThose inst test rows answer
+  within : length answer ≤ length (rows_of Study inst rows)
+
+module _ (old new : State) (inst : List ℕ) (answer : List Values) (many : ℕ) where
+  shows_those : (text : List ℕ) (tests : List Term) (at : ℕ) → Means Two text (some_of tests at) → ShowsNoWrite text → (params : Values) → eval (col 0 at) (params ∷ []) ≡ Int (pos many)
+      → (test : Row → Bool) → ((r : Values) → IsKeptRow r → passes tests params r ≡ (is_of_kind Study inst (row_of_cells r) && test (row_of_cells r)))
+      → Shown text params old new answer → HoldsOf old (FewThose inst test many answer)
   unfolding rows_of
-  shows_those text tests means silent params test finds h = record {
-    is_open = (shown_unchanged text params old new silent answer h).0.was_open;
-    of_rows = λ rows has.
-        let s = selection 0 tests shown_columns [] old.now.trees params answer refl (answer_of Two text _ means params old new has.version_is.schema answer h) in
-        subst (λ l. IsPermutation l (map (row_shown Study inst) answer)) (sym (both_tests (is_of_kind Study inst) test rows))
-        (found_rows tests params Study inst (λ row. is_of_kind Study inst row && test row) finds (and_own Study inst test) [] old.now rows answer has s);
-  }
+  shows_those text tests at means silent params is test finds h =
+      let keeps : Row → Bool = λ row. is_of_kind Study inst row && test row in
+      record {
+        is_open = (shown_unchanged text params old new silent answer h).0.was_open;
+        of_rows = λ rows has.
+            let a = answer_of Two text _ means params old new has.version_is.schema answer h in
+            let all = unlimited 0 tests shown_columns [] (col 0 at) old.now.trees params answer a in
+            let s = selection 0 tests shown_columns [] old.now.trees params all refl (without_limit 0 tests shown_columns [] (col 0 at) old.now.trees params answer a) in
+            let those : filter keeps rows ≡ filter test (filter (is_of_kind Study inst) rows) = sym (both_tests (is_of_kind Study inst) test rows) in
+            let found = found_rows tests params Study inst keeps finds (and_own Study inst test) [] old.now rows all has s in
+            let n : length answer ≤ length (filter keeps rows) = no_more tests shown_columns [] (col 0 at) params many is keeps finds old.now rows answer has a in
+            let count : length (filter keeps rows) ≡ length (filter test (filter (is_of_kind Study inst) rows)) = ap length those in
+            let fewer : length (filter test (filter (is_of_kind Study inst) rows)) ≤ length (filter (is_of_kind Study inst) rows) = fewer_pass test _ in
+            record {
+              all = λ less.
+                  let whole : answer ≡ all = all_answered tests shown_columns [] (col 0 at) params many is keeps finds old.now rows answer has a less in
+                  subst (λ l. IsPermutation l (map (row_shown Study inst) answer)) those
+                  (subst (λ l. IsPermutation (filter keeps rows) (map (row_shown Study inst) l)) (sym whole) found);
+              within = omega (arith, n, count, fewer);
+            };
+      }
 
-  pub found_patient : (patient : List ℕ) → Shown patient_text (of_params Study inst (Blob patient ∷ [])) old new answer
-      → HoldsOf old (λ rows. ShowsSaying Patient (is_of_patient patient) inst rows answer)
+  found_patient : (patient : List ℕ) → Shown patient_text (of_params Study inst (Blob patient ∷ Int (pos many) ∷ [])) old new answer
+      → HoldsOf old (FewThose inst (λ row. is_of_patient patient row && says Patient row) many answer)
   found_patient patient h =
-      shows_those patient_text patient_tests patient_means patient_silent _ (λ row. is_of_patient patient row && says Patient row) (λ r kept. patient_finds inst r kept patient) h
+      shows_those patient_text patient_tests 3 patient_means patient_silent _ refl (λ row. is_of_patient patient row && says Patient row) (λ r kept. patient_finds inst r kept patient (Int (pos many) ∷ [])) h
 
-  pub found_days : AreNatural → (first last : Option ℕ)
-      → Shown days_text (of_params Study inst (Int (pos (unwrap_or first 0)) ∷ last_day_or_blob last ∷ [])) old new answer
-      → HoldsOf old (λ rows. ShowsSaying Day (is_of_days first last) inst rows answer)
+  found_days : AreNatural → (first last : Option ℕ)
+      → Shown days_text (of_params Study inst (Int (pos (unwrap_or first 0)) ∷ last_day_or_blob last ∷ Int (pos many) ∷ [])) old new answer
+      → HoldsOf old (FewThose inst (λ row. is_of_days first last row && says Day row) many answer)
   found_days natural first last h =
-      shows_those days_text days_tests days_means days_silent _ (λ row. is_of_days first last row && says Day row) (λ r kept. days_find inst r kept natural first last) h
+      shows_those days_text days_tests 4 days_means days_silent _ refl (λ row. is_of_days first last row && says Day row) (λ r kept. days_find inst r kept natural first last (Int (pos many) ∷ [])) h
+
+  -- what is taken of an answer where it has fewer rows
+  few_of : (few : Option (Vec Values)) (test : Row → Bool) → MatchOption few (many ≤ length answer) (λ some. (some.items ≡ answer) × (length answer < many))
+      → HoldsOf old (FewThose inst test many answer) → FindsFew many inst old few (λ some rows. ShowsThose inst test rows some.items)
+  few_of None test full h = holds_weaker old _ _ (λ rows it. let n = it.within in omega (arith, full, n)) h
+  few_of (Some some) test e h = holds_weaker old _ _ (λ rows it. subst (ShowsThose inst test rows) (sym e.0) (it.all e.1)) h
+
+  pub few_of_patient : (few : Option (Vec Values)) (patient : List ℕ) → MatchOption few (many ≤ length answer) (λ some. (some.items ≡ answer) × (length answer < many))
+      → Shown patient_text (of_params Study inst (Blob patient ∷ Int (pos many) ∷ [])) old new answer
+      → FindsFew many inst old few (λ some rows. ShowsSaying Patient (is_of_patient patient) inst rows some.items)
+  few_of_patient few patient e h = few_of few _ e (found_patient patient h)
+
+  pub few_of_days : (few : Option (Vec Values)) (first last : Option ℕ) → AreNatural → MatchOption few (many ≤ length answer) (λ some. (some.items ≡ answer) × (length answer < many))
+      → Shown days_text (of_params Study inst (Int (pos (unwrap_or first 0)) ∷ last_day_or_blob last ∷ Int (pos many) ∷ [])) old new answer
+      → FindsFew many inst old few (λ some rows. ShowsSaying Day (is_of_days first last) inst rows some.items)
+  few_of_days few first last natural e h = few_of few _ e (found_days natural first last h)
 
 -- ---- those that do not say something
 
-module _ (old new : State) (inst : List ℕ) (most : ℕ) (answer silent : List Values) (ends : EndsWithin most answer silent) where
+module _ (old new : State) (inst : List ℕ) (most : ℕ) (answer : List Values) where
   found_silent : (at : ℕ) (text : List ℕ) → Means Two text (first_by at) → ShowsNoWrite text → (label : Label)
       → ((r : Values) → IsKeptRow r → is_null (column r at) ≡ not (says label (row_of_cells r)))
-      → Shown text (of_params Study inst (Int (pos most) ∷ [])) old new answer → HoldsOf old (λ rows. ShowsSilent label inst rows silent)
+      → Shown text (of_params Study inst (Int (pos most) ∷ [])) old new answer → (few : Option (Vec Values))
+      → MatchOption few (most ≤ length answer) (λ silent. EndsWithin most answer silent.items)
+      → FindsFew most inst old few (λ silent rows. ShowsSilent label inst rows silent.items)
   unfolding rows_of
-  found_silent at text means shows label unsaid h =
+  found_silent at text means shows label unsaid h None full =
+      let params : Values = of_params Study inst (Int (pos most) ∷ []) in
+      record {
+        is_open = (shown_unchanged text params old new shows answer h).0.was_open;
+        of_rows = λ rows has.
+            let a = answer_of Two text _ means params old new has.version_is.schema answer h in
+            let n = no_more of_tests (shown_columns ++ col 1 at ∷ []) ((col 1 at, ascending Binary) ∷ []) (col 0 2) params most refl (is_of_kind Study inst)
+            (of_finds Study inst (Int (pos most) ∷ [])) old.now rows answer has a in
+            omega (arith, full, n);
+      }
+  found_silent at text means shows label unsaid h (Some silent) ends =
       let more : Values = Int (pos most) ∷ [] in
       let params : Values = of_params Study inst more in
       record {
@@ -77,19 +134,23 @@ module _ (old new : State) (inst : List ℕ) (most : ℕ) (answer silent : List 
         of_rows = λ rows has.
             let a = answer_of Two text _ means params old new has.version_is.schema answer h in
             let got = silent_rows at params most refl Study inst (is_of_kind Study inst) (says label) (of_finds Study inst more) unsaid
-            (λ row e. of_own Study inst row (and_parts (is_of_kind Study inst row) _ e).0) old.now rows answer silent has a ends in
-            subst (λ l. IsPermutation l (map (row_shown Study inst) silent)) (sym (both_tests (is_of_kind Study inst) (λ row. not (says label row)) rows)) got;
+            (λ row e. of_own Study inst row (and_parts (is_of_kind Study inst row) _ e).0) old.now rows answer silent.items has a ends in
+            subst (λ l. IsPermutation l (map (row_shown Study inst) silent.items)) (sym (both_tests (is_of_kind Study inst) (λ row. not (says label row)) rows)) got;
       }
 
-  pub found_no_patient : Shown no_patient_text (of_params Study inst (Int (pos most) ∷ [])) old new answer → HoldsOf old (λ rows. ShowsSilent Patient inst rows silent)
+  pub found_no_patient : Shown no_patient_text (of_params Study inst (Int (pos most) ∷ [])) old new answer → (few : Option (Vec Values))
+      → MatchOption few (most ≤ length answer) (λ silent. EndsWithin most answer silent.items) → FindsFew most inst old few (λ silent rows. ShowsSilent Patient inst rows silent.items)
   found_no_patient = found_silent 5 no_patient_text no_patient_means no_patient_silent Patient (unsaid_patient inst)
 
-  pub found_no_day : Shown no_day_text (of_params Study inst (Int (pos most) ∷ [])) old new answer → HoldsOf old (λ rows. ShowsSilent Day inst rows silent)
+  pub found_no_day : Shown no_day_text (of_params Study inst (Int (pos most) ∷ [])) old new answer → (few : Option (Vec Values))
+      → MatchOption few (most ≤ length answer) (λ silent. EndsWithin most answer silent.items) → FindsFew most inst old few (λ silent rows. ShowsSilent Day inst rows silent.items)
   found_no_day = found_silent 6 no_day_text no_day_means no_day_silent Day (unsaid_day inst)
 
-pub some_weaker : {X : Type 0} (o : Option X) (P Q : X → Type 0) → ((x : X) → P x → Q x) → IfSome o P → IfSome o Q
-some_weaker None P Q f h = tt
-some_weaker (Some x) P Q f h = f x h
+-- what follows from what was found
+pub few_weaker : {X : Type 0} (many : ℕ) (inst : List ℕ) (s : State) (few : Option X) (P Q : X → List Row → Type 0) → ((x : X) → HoldsOf s (P x) → HoldsOf s (Q x))
+    → FindsFew many inst s few P → FindsFew many inst s few Q
+few_weaker many inst s None P Q f h = h
+few_weaker many inst s (Some x) P Q f h = f x h
 
 -- ---- both parts
 

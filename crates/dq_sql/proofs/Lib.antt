@@ -6,6 +6,8 @@ mod Inserts
 mod RecordColumns
 mod Judgements
 mod KeptRows
+mod LimitedRows
+mod KeptStudies
 mod ChangeSteps
 mod ReadRows
 mod Migrations

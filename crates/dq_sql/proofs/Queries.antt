@@ -51,9 +51,14 @@ above_tests = column_is 1 0 ∷ column_is 2 1 ∷ column_is 4 2 ∷ []
 abbrev pub after_tests : List Term
 after_tests = column_is 1 0 ∷ column_is 2 1 ∷ op2 (Compare Gt Binary) (col 1 3) (col 0 2) ∷ []
 
--- those that are not started
+-- those under a key with a key behind one
+abbrev pub above_after_tests : List Term
+above_after_tests = column_is 1 0 ∷ column_is 2 1 ∷ column_is 4 2 ∷ op2 (Compare Gt Binary) (col 1 3) (col 0 3) ∷ []
+
+-- those that are not started, with a key behind one
 abbrev pub waiting_tests : List Term
-waiting_tests = column_is 1 0 ∷ column_is 2 1 ∷ op2 (Compare Eq Binary) (col 1 8) (lit (Int (pos 0))) ∷ []
+waiting_tests =
+    column_is 1 0 ∷ column_is 2 1 ∷ op2 (Compare Eq Binary) (col 1 8) (lit (Int (pos 0))) ∷ op2 (Compare Gt Binary) (col 1 3) (col 0 2) ∷ []
 
 abbrev pub shown_columns : List Term
 shown_columns = col 1 3 ∷ col 1 4 ∷ col 1 7 ∷ col 1 8 ∷ []
@@ -65,9 +70,9 @@ by_id = (col 1 3, ascending Binary) ∷ []
 abbrev pub of_window : Query
 of_window = record (selecting 0 of_tests None shown_columns by_id) { limit = col 0 2; offset = col 0 3 }
 
--- those with a key behind the third parameter, by their keys: as many as the fourth says
-abbrev pub of_page : Query
-of_page = record (selecting 0 after_tests None shown_columns by_id) { limit = col 0 3 }
+-- the rows that pass tests, by their keys: as many as a parameter says
+abbrev pub of_page : List Term → ℕ → Query
+of_page tests limit = record (selecting 0 tests None shown_columns by_id) { limit = col 0 limit }
 
 abbrev pub count_grouping : Grouping
 count_grouping = record {
@@ -102,8 +107,11 @@ after_text = codes "SELECT id, above, octets, started FROM kept WHERE kind = ?1 
 abbrev pub above_text : List ℕ
 above_text = codes "SELECT id, above, octets, started FROM kept WHERE kind = ?1 AND inst = ?2 AND above = ?3 ORDER BY id"
 
+abbrev pub above_after_text : List ℕ
+above_after_text = codes "SELECT id, above, octets, started FROM kept WHERE kind = ?1 AND inst = ?2 AND above = ?3 AND id > ?4 ORDER BY id LIMIT ?5"
+
 abbrev pub waiting_text : List ℕ
-waiting_text = codes "SELECT id, above, octets, started FROM kept WHERE kind = ?1 AND inst = ?2 AND started = 0 ORDER BY id"
+waiting_text = codes "SELECT id, above, octets, started FROM kept WHERE kind = ?1 AND inst = ?2 AND started = 0 AND id > ?3 ORDER BY id LIMIT ?4"
 
 abbrev pub count_text : List ℕ
 count_text = codes "SELECT count(*) FROM kept WHERE kind = ?1 AND inst = ?2"
@@ -156,7 +164,7 @@ pub window_means : Means Two window_text of_window
 unfolding understood everything schema_of
 window_means = record { names = names; is = refl; plain = (refl, refl); unlisted = refl }
 
-pub after_means : Means Two after_text of_page
+pub after_means : Means Two after_text (of_page after_tests 3)
 unfolding understood everything schema_of
 after_means = record { names = names; is = refl; plain = (refl, refl); unlisted = refl }
 
@@ -164,7 +172,11 @@ pub above_means : Means Two above_text (selecting 0 above_tests None shown_colum
 unfolding understood everything schema_of
 above_means = record { names = names; is = refl; plain = (refl, refl); unlisted = refl }
 
-pub waiting_means : Means Two waiting_text (selecting 0 waiting_tests None shown_columns by_id)
+pub above_after_means : Means Two above_after_text (of_page above_after_tests 4)
+unfolding understood everything schema_of
+above_after_means = record { names = names; is = refl; plain = (refl, refl); unlisted = refl }
+
+pub waiting_means : Means Two waiting_text (of_page waiting_tests 3)
 unfolding understood everything schema_of
 waiting_means = record { names = names; is = refl; plain = (refl, refl); unlisted = refl }
 

@@ -1,12 +1,13 @@
 -- What a query on one table answers.
-use Rattle.std.proofs.Common.{◌≡◌, ℕ, Bool, true, false, List, [], ◌∷◌, ◌++◌, None, map, filter, if◌then◌else◌, refl, sym, ◌∙◌, ap, subst}
+use Rattle.std.proofs.Common.{◌≡◌, ℕ, Bool, true, false, List, [], ◌∷◌, ◌++◌, None, map, filter, take, pos, if◌then◌else◌, refl, sym, ◌∙◌, ap, subst}
 use Rattle.std.specs.List.{list_all, flat_map}
 use Rattle.std.specs.List.Sorted.{IsPermutation, IsSorted}
 use Rattle.std.proofs.lemmas.List.Sorted.{IsPermutation-map}
 use Rattle.sqlite_value.specs.declared.keys.Key.{Key}
+use Rattle.sqlite_value.specs.declared.value.Value.TheVariants.{Int}
 use Rattle.sqlite_value.specs.Order.{Row as Values}
 use Rattle.sqlite_trees.specs.Tree.{Trees}
-use Rattle.sqlite_sql.specs.Term.{Term, Env, eval_all, holds}
+use Rattle.sqlite_sql.specs.Term.{Term, Env, eval, eval_all, holds}
 use Rattle.sqlite_sql.specs.Query.{Output, output, output_cmp, IsAnswer}
 use Rattle.sqlite_sql.specs.Program.{overlay}
 use Rattle.dq_sql.proofs.Queries.{selecting}
@@ -60,6 +61,28 @@ selection tree tests shown order db params answer at a =
       sorted = a.sorted;
       is = a.shown;
     }
+
+module _ (tree : ℕ) (tests shown : List Term) (order : List (Term × Key)) (limit : Term) (db : Trees) (params : Values) (answer : List Values)
+    (a : IsAnswer (record (selecting tree tests None shown order) { limit = limit }) (overlay db []) params answer) where
+  -- what would be answered without the limit
+  abbrev pub unlimited : List Values
+  unlimited = map (λ (o : Output). o.1) a.ordered
+
+  pub without_limit : IsAnswer (selecting tree tests None shown order) (overlay db []) params unlimited
+  without_limit = record {
+    staged = a.staged;
+    grouped = a.grouped;
+    kept = a.kept;
+    distinct = a.distinct;
+    ordered = a.ordered;
+    same = a.same;
+    sorted = a.sorted;
+    shown = refl;
+  }
+
+  -- the answer is the first of it
+  pub limited_to : (most : ℕ) → eval limit (params ∷ []) ≡ Int (pos most) → answer ≡ take most unlimited
+  limited_to most is = a.shown ∙ (rw is refl)
 
 -- the rows that are answered, in some order
 pub selection_rows : (tree : ℕ) (tests shown : List Term) (order : List (Term × Key)) (db : Trees) (params : Values) (answer : List Values)

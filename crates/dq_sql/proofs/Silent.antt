@@ -13,7 +13,7 @@ use Rattle.sqlite_tied.specs.Compute.{everything}
 use Rattle.sqlite.specs.Listing.{understood, if_select, is_select, reads_listing, listing_schema}
 use Rattle.dq_sql.specs.declared.version.Version.TheVariants.{One, Two}
 use Rattle.dq_sql.specs.RowReads.{ShowsNoWrite}
-use Rattle.dq_sql.proofs.Queries.{row_text, of_text, window_text, after_text, above_text, waiting_text, count_text, told_text, count_above_text, all_text, version_text}
+use Rattle.dq_sql.proofs.Queries.{row_text, of_text, window_text, after_text, above_text, above_after_text, waiting_text, count_text, told_text, count_above_text, all_text, version_text}
 
 abbrev returning_in : Schema → ℕ → Checked Parsed → Checked (Option Returning)
 returning_in schema base (Ok p) = returning schema base p.statement
@@ -93,6 +93,13 @@ above_bare schema base = refl
 
 pub above_silent : ShowsNoWrite above_text
 above_silent = bare_shows above_text above_bare
+
+above_after_bare : IsBare above_after_text
+unfolding everything
+above_after_bare schema base = refl
+
+pub above_after_silent : ShowsNoWrite above_after_text
+above_after_silent = bare_shows above_after_text above_after_bare
 
 waiting_bare : IsBare waiting_text
 unfolding everything

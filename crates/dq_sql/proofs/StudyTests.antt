@@ -1,5 +1,5 @@
 -- Which studies the tests find by which those of a patient, and of some days, are read.
-use Rattle.std.proofs.Common.{◌≡◌, ℕ, ℤ, ◌≤ℤ◌, int_cmp, int_le, is_le, pos, Option, Bool, true, false, not, ◌&&◌, List, [], ◌∷◌, None, Some, is_some, unwrap_or, refl, sym, ◌∙◌, ap, arith}
+use Rattle.std.proofs.Common.{◌≡◌, ℕ, ℤ, ◌≤ℤ◌, int_cmp, int_le, is_le, pos, Option, Bool, true, false, not, ◌&&◌, List, ◌∷◌, None, Some, is_some, unwrap_or, refl, sym, ◌∙◌, ap, arith}
 use Rattle.std.specs.Str.{bytes_eq}
 use Rattle.std.proofs.lemmas.Map.Text.{is_eq-slice_cmp}
 use Rattle.std.proofs.lemmas.Int.{ints}
@@ -119,15 +119,15 @@ module _ (inst : List ℕ) (r : Values) (h : IsKeptRow r) where
   pub unsaid_day : is_null (column r 6) ≡ not (says Day row)
   unsaid_day = null_day (column r 6) (day_of row) day_is
 
-  pub patient_finds : (patient : List ℕ) → passes patient_tests (of_params Study inst (Blob patient ∷ [])) r
+  pub patient_finds : (patient : List ℕ) (more : Values) → passes patient_tests (of_params Study inst (Blob patient ∷ more)) r
       ≡ (is_of_kind Study inst row && (is_of_patient patient row && says Patient row))
-  patient_finds patient =
+  patient_finds patient more =
       rw (kind_test (column r 1) row.kind Study h.kind, text_test (column r 2) row.inst inst h.inst, patient_is, patient_said patient (patient_of row))
       (three (same_kind row.kind Study) (bytes_eq row.inst inst) (is_of_patient patient row && says Patient row))
 
-  pub days_find : AreNatural → (first last : Option ℕ) → passes days_tests (of_params Study inst (Int (pos (unwrap_or first 0)) ∷ last_day_or_blob last ∷ [])) r
+  pub days_find : AreNatural → (first last : Option ℕ) (more : Values) → passes days_tests (of_params Study inst (Int (pos (unwrap_or first 0)) ∷ last_day_or_blob last ∷ more)) r
       ≡ (is_of_kind Study inst row && (is_of_days first last row && says Day row))
-  days_find natural first last =
+  days_find natural first last more =
       rw (kind_test (column r 1) row.kind Study h.kind, text_test (column r 2) row.inst inst h.inst, day_is)
       (four (same_kind row.kind Study) (bytes_eq row.inst inst) (at_most (Int (pos (unwrap_or first 0))) (or_null Int (day_of row)))
       (at_most (or_null Int (day_of row)) (last_day_or_blob last)) (is_of_days first last row && says Day row) (days_said first last (day_of row) (natural row)))

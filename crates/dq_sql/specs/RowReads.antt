@@ -1,6 +1,7 @@
 -- Rows and counts that are read from the tables of a database.
-use Rattle.std.specs.Prelude.{◌≡◌, ◌<◌, ℕ, pos, slice_index_or, List, [], ◌∷◌, None, IfOk, IsTrue, map, IsPermutation}
-use Rattle.sqlite_value.specs.declared.value.Value.TheVariants.{Int}
+use Rattle.std.specs.Prelude.{◌≡◌, ◌<◌, ℕ, pos, slice_index_or, List, [], ◌∷◌, None, Some, Option, IfOk, IsTrue, map, IsPermutation}
+use Rattle.sqlite_value.specs.declared.value.Value.{Value}
+use Rattle.sqlite_value.specs.declared.value.Value.TheVariants.{Int, Blob}
 use Rattle.sqlite_value.specs.Order.{Row as Values, column, bytes}
 use Rattle.sqlite_schema.specs.declared.schema.Schema.{Schema}
 use Rattle.sqlite.specs.Listing.{understood}
@@ -58,6 +59,11 @@ row_shown kind institution values = record {
   octets = bytes (column values 2);
   started = is_set (column values 3);
 }
+
+-- what a key is behind: a key, or a number, which is below each
+abbrev pub key_or_number : Option (List ℕ) → Value
+key_or_number (Some key) = Blob key
+key_or_number None = Int (pos 0)
 
 -- The answer to a count, which is not a number from the greatest whole number of SQL on.
 pub record IsCount (answer : List Values) (number : ℕ) : Type 0 where

@@ -1,5 +1,5 @@
 -- In which parts the studies are read that a choice takes.
-use Rattle.std.specs.Prelude.{ℕ, ◌<◌, Bool, not, ◌&&◌, int_le, if◌then◌else◌, List, [], ◌∷◌, length, map, filter, is_some, Option, Some, None, pos, IsPermutation, ◌≡◌}
+use Rattle.std.specs.Prelude.{ℕ, ◌<◌, ◌≤◌, Bool, not, ◌&&◌, int_le, if◌then◌else◌, List, [], ◌∷◌, length, map, filter, is_some, Option, Some, None, MatchOption, pos, IsPermutation, ◌≡◌}
 use Rattle.std.specs.Str.{bytes_eq}
 use Rattle.sqlite_value.specs.declared.value.Value.{Value}
 use Rattle.sqlite_value.specs.declared.value.Value.TheVariants.{Int, Blob}
@@ -12,7 +12,8 @@ use Rattle.dq_tables.specs.StudyChoices.{is_open_or}
 use Rattle.dq_tables.specs.Lookups.{rows_of}
 use Rattle.dq_sql.specs.declared.study_index.Label.{Label}
 use Rattle.dq_sql.specs.declared.study_index.Label.TheVariants.{Patient, Day}
-use Rattle.dq_sql.specs.RowReads.{row_shown}
+use Rattle.sqlite.specs.State.{State}
+use Rattle.dq_sql.specs.RowReads.{HoldsOf, row_shown}
 
 -- a study says who its patient is, or which its day
 abbrev pub says : Label → Row → Bool
@@ -41,6 +42,15 @@ ShowsSaying label test institution = ShowsThose institution (λ row. test row &&
 
 abbrev pub ShowsSilent : Label → List ℕ → List Row → List Values → Type 0
 ShowsSilent label institution = ShowsThose institution (λ row. not (says label row))
+
+-- The institution has so many studies.
+abbrev pub HasMany : ℕ → List ℕ → List Row → Type 0
+HasMany many institution rows = many ≤ length (rows_of Study institution rows)
+
+-- What is read is so of the rows, whichever they are. None is read only where the institution has so
+-- many studies.
+abbrev pub FindsFew : {X : Type 0} → ℕ → List ℕ → State → Option X → (X → List Row → Type 0) → Type 0
+FindsFew many institution s few P = MatchOption few (HoldsOf s (HasMany many institution)) (λ x. HoldsOf s (P x))
 
 -- what an answer shows before the first row whose fifth column is not null
 abbrev pub leading_nulls : List Values → List Values

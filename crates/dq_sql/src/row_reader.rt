@@ -1,11 +1,11 @@
 //! Queries on the tables of a connection.
-ghost use Rattle.std.specs.Prelude.{◌≡◌, [], None, Some, List, IfOk, IfErr, OnOk, map, length, take, drop, slice_get};
+ghost use Rattle.std.specs.Prelude.{◌≡◌, [], None, Some, List, IfOk, IfErr, OnOk, map, length, take, drop, slice_get, option_copied};
 ghost use Rattle.sqlite_value.specs.Order.{Row as Values, column, bytes};
 ghost use Rattle.sqlite_value.specs.declared.value.Value.TheVariants.{Blob};
 ghost use Rattle.sqlite.specs.Values.{bound};
 ghost use Rattle.sqlite.specs.State.{HasCleanDisk, Shown};
 ghost use Rattle.sqlite.specs.Held.{state};
-ghost use Rattle.dq_tables.specs.Lookups.{row_at, rows_of, rows_above, rows_after, waiting_entries};
+ghost use Rattle.dq_tables.specs.Lookups.{row_at, rows_of, rows_above, rows_after, rows_behind, waiting_entries};
 ghost use Rattle.dq_sql.specs.Tie.{is_set, Stays};
 ghost use Rattle.dq_sql.specs.FoundStores.{IsJudged, number_query, FailsBy};
 ghost use Rattle.dq_sql.specs.StoreFaults.{store_fault, of_tables};
@@ -13,7 +13,7 @@ ghost use Rattle.dq_sql.specs.RowReads.{ShowsNoWrite, ShowsSame, HoldsOf, Shows,
 
 use crate::judgement::Judgement;
 use crate::version::Version;
-use crate::window::Window;
+use crate::window::{KeyPage, Window, key_or_number, limit_of};
 use dq_list::Listed;
 use dq_tables::{Kind, Row, TableFault};
 use sqlite::types::{ToSql, ValueRef};
@@ -221,10 +221,7 @@ pub(crate) fn rows_after<S: Alter>(
         list ≡ take most (rows_after kind institution.now key.now rows))) }
     ensures stays { Stays (state S.Store conn.old) (state S.Store conn.new) }
 {
-    let page = Window { from: 0, most };
-    let Some((limit, _)) = page.limit_and_offset() else {
-        return Err(TableFault::NoMemory);
-    };
+    let limit = limit_of(most)?;
     let answer = answered(
         conn,
         "SELECT id, above, octets, started FROM kept WHERE kind = ?1 AND inst = ?2 AND id > ?3 ORDER BY id LIMIT ?4",
@@ -264,23 +261,60 @@ pub(crate) fn rows_above<S: Alter>(
     rows_shown(alloc, kind, institution, answer.as_slice())
 }
 
-/// The worklist entries of an institution that are not started, in the order of their keys.
+/// Those of them with keys behind a key, or all where there is none, at most so many.
+#[tactic(auto, using(crate::proofs::Silent::above_after_silent))]
+pub(crate) fn rows_above_after<S: Alter>(
+    conn: &mut Connection<S>,
+    alloc: Global,
+    kind: Kind,
+    institution: &[u8],
+    above: &[u8],
+    page: KeyPage<'_>,
+) -> Result<Listed<Row>, TableFault>
+    ensures found { HasCleanDisk (state S.Store conn.new) → IfOk result (λ list.
+        HoldsOf (state S.Store conn.old) (λ rows.
+        list ≡ take page.entry.most (rows_behind (option_copied page.entry.after)
+        (rows_above kind institution.now above.now rows)))) }
+    ensures stays { Stays (state S.Store conn.old) (state S.Store conn.new) }
+{
+    let limit = limit_of(page.most)?;
+    let answer = answered(
+        conn,
+        "SELECT id, above, octets, started FROM kept WHERE kind = ?1 AND inst = ?2 AND above = ?3 AND id > ?4 ORDER BY id LIMIT ?5",
+        &[
+            u32::from(kind.number()).to_sql(),
+            ValueRef::Text(institution),
+            ValueRef::Blob(above),
+            key_or_number(page.after),
+            limit,
+        ],
+    )?;
+    rows_shown(alloc, kind, institution, answer.as_slice())
+}
+
+/// A page of the worklist entries of an institution that are not started.
 #[tactic(auto, using(crate::proofs::Silent::waiting_silent))]
-pub(crate) fn waiting<S: Alter>(
+pub(crate) fn waiting_after<S: Alter>(
     conn: &mut Connection<S>,
     alloc: Global,
     institution: &[u8],
+    page: KeyPage<'_>,
 ) -> Result<Listed<Row>, TableFault>
     ensures found { HasCleanDisk (state S.Store conn.new) → IfOk result (λ list.
-        HoldsOf (state S.Store conn.old) (λ rows. list ≡ waiting_entries institution.now rows)) }
+        HoldsOf (state S.Store conn.old) (λ rows.
+        list ≡ take page.entry.most (rows_behind (option_copied page.entry.after)
+        (waiting_entries institution.now rows)))) }
     ensures stays { Stays (state S.Store conn.old) (state S.Store conn.new) }
 {
+    let limit = limit_of(page.most)?;
     let answer = answered(
         conn,
-        "SELECT id, above, octets, started FROM kept WHERE kind = ?1 AND inst = ?2 AND started = 0 ORDER BY id",
+        "SELECT id, above, octets, started FROM kept WHERE kind = ?1 AND inst = ?2 AND started = 0 AND id > ?3 ORDER BY id LIMIT ?4",
         &[
             u32::from(Kind::Entry.number()).to_sql(),
             ValueRef::Text(institution),
+            key_or_number(page.after),
+            limit,
         ],
     )?;
     rows_shown(alloc, Kind::Entry, institution, answer.as_slice())

@@ -14,7 +14,7 @@ ghost use Rattle.sqlite_wal.specs.Recovery.{Image};
 
 use crate::fault::StoreFault;
 use crate::history::History;
-use crate::window::Window;
+use crate::window::{KeyPage, Window};
 use crate::{row_reader, row_writer, study_index};
 use dq_list::Listed;
 use dq_tables::{Change, Choice, Kind, Row, TableFault, Tables};
@@ -189,17 +189,50 @@ impl<S: Alter> Tables for SqlTables<S> {
         noted(&mut self.failed, answer)
     }
 
-    fn studies_in(
+    fn rows_above_after(
         &mut self,
+        kind: Kind,
         institution: &[u8],
-        choice: &Choice,
+        above: &[u8],
+        after: Option<&[u8]>,
+        most: usize,
     ) -> Result<Listed<Row>, TableFault> {
-        let answer = study_index::studies_in(&mut self.conn, self.alloc, institution, choice);
+        let page = KeyPage { after, most };
+        let answer = row_reader::rows_above_after(
+            &mut self.conn,
+            self.alloc,
+            kind,
+            institution,
+            above,
+            page,
+        );
         noted(&mut self.failed, answer)
     }
 
-    fn waiting(&mut self, institution: &[u8]) -> Result<Listed<Row>, TableFault> {
-        let answer = row_reader::waiting(&mut self.conn, self.alloc, institution);
+    fn few_studies_in(
+        &mut self,
+        institution: &[u8],
+        choice: &Choice,
+        many: usize,
+    ) -> Result<Option<Listed<Row>>, TableFault> {
+        let answer = study_index::few_studies_in(
+            &mut self.conn,
+            self.alloc,
+            institution,
+            choice,
+            many,
+        );
+        noted(&mut self.failed, answer)
+    }
+
+    fn waiting_after(
+        &mut self,
+        institution: &[u8],
+        after: Option<&[u8]>,
+        most: usize,
+    ) -> Result<Listed<Row>, TableFault> {
+        let page = KeyPage { after, most };
+        let answer = row_reader::waiting_after(&mut self.conn, self.alloc, institution, page);
         noted(&mut self.failed, answer)
     }
 

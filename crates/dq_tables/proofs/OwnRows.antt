@@ -12,7 +12,7 @@ use Rattle.dq_tables.specs.declared.row.Kind.TheVariants.{Study, Entry}
 use Rattle.dq_tables.specs.declared.row.Row.{Row}
 use Rattle.dq_tables.specs.Rows.{Record, octet_order, of, row_of, record_of}
 use Rattle.dq_tables.specs.StudyChoices.{is_chosen, studies_in, studies_among}
-use Rattle.dq_tables.specs.Lookups.{record_at, records_of, records_above, records_after, waiting_among, row_at, rows_of, rows_above, rows_after, waiting_entries, same_kind}
+use Rattle.dq_tables.specs.Lookups.{record_at, records_of, records_above, records_after, records_behind, waiting_among, row_at, rows_of, rows_above, rows_after, rows_behind, waiting_entries, same_kind}
 
 own_row : (h : List ℕ) (row : Row) → bytes_eq row.inst h ≡ true → row ≡ row_of h (record_of row)
 own_row h row same = ap (λ (i : List ℕ). row_of i (record_of row)) ((bytes_eq-Decides row.inst h).0 same)
@@ -81,6 +81,28 @@ after_own kind h key rows = ap (filter (λ (row : Row). is_gt (octet_order row.k
 pub page_own : (kind : Kind) (h key : List ℕ) (most : ℕ) (rows : List Row)
     → take most (rows_after kind h key rows) ≡ map (row_of h) (take most (records_after kind key (of h rows)))
 page_own kind h key most rows = ap (take most) (after_own kind h key rows) ∙ take-map (row_of h) most (records_after kind key (of h rows))
+
+-- those behind a key, where there is one
+behind_own : (h : List ℕ) (after : Option (List ℕ)) (rs : List Record) → rows_behind after (map (row_of h) rs) ≡ map (row_of h) (records_behind after rs)
+behind_own h None rs = refl
+behind_own h (Some key) rs = filter_map_row h (λ (row : Row). is_gt (octet_order row.key key)) rs
+
+page_behind_own : (h : List ℕ) (after : Option (List ℕ)) (most : ℕ) (rows : List Row) (rs : List Record) → rows ≡ map (row_of h) rs
+    → take most (rows_behind after rows) ≡ map (row_of h) (take most (records_behind after rs))
+page_behind_own h after most rows rs is =
+    ap (λ (found : List Row). take most (rows_behind after found)) is
+    ∙ ap (take most) (behind_own h after rs)
+    ∙ take-map (row_of h) most (records_behind after rs)
+
+pub above_page_own : (kind : Kind) (h above : List ℕ) (after : Option (List ℕ)) (most : ℕ) (rows : List Row)
+    → take most (rows_behind after (rows_above kind h above rows))
+    ≡ map (row_of h) (take most (records_behind after (records_above kind above (of h rows))))
+above_page_own kind h above after most rows = page_behind_own h after most _ _ (above_own kind h above rows)
+
+pub waiting_page_own : (h : List ℕ) (after : Option (List ℕ)) (most : ℕ) (rows : List Row)
+    → take most (rows_behind after (waiting_entries h rows))
+    ≡ map (row_of h) (take most (records_behind after (waiting_among (of h rows))))
+waiting_page_own h after most rows = page_behind_own h after most _ _ (waiting_own h rows)
 
 pub counted_own : (kind : Kind) (h : List ℕ) (rows : List Row) → length (rows_of kind h rows) ≡ length (records_of kind (of h rows))
 counted_own kind h rows = ap length (listed_own kind h rows) ∙ length-map (records_of kind (of h rows)) (row_of h)

@@ -1,5 +1,5 @@
 -- Lookups among rows, and among the records of one institution.
-use Rattle.std.specs.Prelude.{◌≡◌, ℕ, ◌+◌, ◌<◌, ◌≤◌, take, drop, slice_get, None, Bool, not, ◌&&◌, List, filter, find, length, Option}
+use Rattle.std.specs.Prelude.{◌≡◌, ℕ, ◌+◌, ◌<◌, ◌≤◌, take, drop, slice_get, Some, None, Bool, not, ◌&&◌, List, filter, find, length, Option}
 use Rattle.std.specs.Ordering.{is_gt}
 use Rattle.std.specs.Str.{bytes_eq}
 use Rattle.dq_tables.specs.declared.row.Kind.{Kind}
@@ -47,6 +47,16 @@ rows_after kind institution key rows =
 
 abbrev pub waiting_entries : List ℕ → List Row → List Row
 waiting_entries institution rows = filter (λ (row : Row). not row.started) (rows_of Entry institution rows)
+
+-- those of some records with keys behind a key, octet by octet; all where there is no key
+abbrev pub records_behind : Option (List ℕ) → List Record → List Record
+records_behind None records = records
+records_behind (Some key) records = filter (λ (r : Record). is_gt (octet_order r.key key)) records
+
+-- the same of rows
+abbrev pub rows_behind : Option (List ℕ) → List Row → List Row
+rows_behind None rows = rows
+rows_behind (Some key) rows = filter (λ (row : Row). is_gt (octet_order row.key key)) rows
 
 -- Among rows in order, the one at an index stands at a place.
 pub record IsAtIndex (p : RowPlace) (rows : List Row) (at : ℕ) : Type 0 where

@@ -71,16 +71,36 @@ impl Tables for PlainTables {
         Ok(scan::rows_above(self.alloc, self.kept(), kind, institution, above)?)
     }
 
-    fn studies_in(
+    fn rows_above_after(
+        &mut self,
+        kind: Kind,
+        institution: &[u8],
+        above: &[u8],
+        after: Option<&[u8]>,
+        most: usize,
+    ) -> Result<Listed<Row>, TableFault> {
+        let rows = scan::rows_above(self.alloc, self.kept(), kind, institution, above)?;
+        Ok(scan::cut(scan::behind(rows, after), 0, most))
+    }
+
+    fn few_studies_in(
         &mut self,
         institution: &[u8],
         choice: &Choice,
-    ) -> Result<Listed<Row>, TableFault> {
-        Ok(scan::studies_in(self.alloc, self.kept(), institution, choice)?)
+        _: usize,
+    ) -> Result<Option<Listed<Row>>, TableFault> {
+        let rows = scan::studies_in(self.alloc, self.kept(), institution, choice)?;
+        Ok(Some(rows))
     }
 
-    fn waiting(&mut self, institution: &[u8]) -> Result<Listed<Row>, TableFault> {
-        Ok(scan::waiting(self.alloc, self.kept(), institution)?)
+    fn waiting_after(
+        &mut self,
+        institution: &[u8],
+        after: Option<&[u8]>,
+        most: usize,
+    ) -> Result<Listed<Row>, TableFault> {
+        let rows = scan::waiting(self.alloc, self.kept(), institution)?;
+        Ok(scan::cut(scan::behind(rows, after), 0, most))
     }
 
     fn count(&mut self, kind: Kind, institution: &[u8]) -> Result<u64, TableFault> {

@@ -1,7 +1,7 @@
 //! Rows, scanned.
 ghost use Rattle.std.specs.Prelude.{◌≡◌, ◌&&◌, IfOk, length, take, drop, option_copied};
 ghost use Rattle.std.specs.Str.{bytes_eq};
-ghost use Rattle.dq_tables.specs.Lookups.{is_of_kind, row_at, rows_of, rows_above, rows_after, waiting_entries};
+ghost use Rattle.dq_tables.specs.Lookups.{is_of_kind, row_at, rows_of, rows_above, rows_after, rows_behind, waiting_entries};
 ghost use Rattle.dq_tables.specs.StudyChoices.{studies_in};
 
 use crate::choice::Choice;
@@ -74,6 +74,18 @@ pub(crate) fn cut(rows: Listed<Row>, from: usize, most: usize) -> Listed<Row>
     let before = from.min(rows.len());
     let _ = rows.drain(..before);
     rows.truncate(most);
+    Listed::from_inner(rows)
+}
+
+/// Those of some rows with keys behind a key; all where there is no key.
+pub(crate) fn behind(rows: Listed<Row>, after: Option<&[u8]>) -> Listed<Row>
+    ensures { result ≡ rows_behind (option_copied after.entry) rows }
+{
+    let Some(after) = after else {
+        return rows;
+    };
+    let mut rows = rows.into_inner();
+    rows.retain(|row| row.key.as_slice().cmp(after).is_gt());
     Listed::from_inner(rows)
 }
 

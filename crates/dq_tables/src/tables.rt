@@ -1,9 +1,10 @@
 //! Keepers of rows.
-ghost use Rattle.std.specs.Prelude.{◌≡◌, List, length, take, drop, IfOk};
+ghost use Rattle.std.specs.Prelude.{◌≡◌, ◌≤◌, None, List, length, take, drop, IfOk, IfSome};
+ghost use Rattle.std.specs.Option.{option_copied};
 ghost use Rattle.dq_tables.specs.declared.row.Kind.TheVariants.{Study, Series, Image, Entry, Step};
 ghost use Rattle.dq_tables.specs.declared.row.Row.{Row};
 ghost use Rattle.dq_tables.specs.Rows.{after, operation_of};
-ghost use Rattle.dq_tables.specs.Lookups.{row_at, rows_of, rows_above, rows_after, waiting_entries};
+ghost use Rattle.dq_tables.specs.Lookups.{row_at, rows_of, rows_above, rows_after, rows_behind, waiting_entries};
 ghost use Rattle.dq_tables.specs.StudyChoices.{studies_in};
 ghost use Rattle.dq_tables.specs.Sound.{IsSound, ChangeFits};
 ghost use Rattle.dq_tables.specs.TableStates.{State, Reads, Writes};
@@ -75,17 +76,45 @@ pub trait Tables {
             (λ list. list ≡ rows_above kind institution.now above.now (state self.old).rows) }
         ensures reads { Reads (state self.old) (state self.new) result };
 
-    /// The institution's studies that a choice takes.
-    fn studies_in(&mut self, institution: &[u8], choice: &Choice) -> Result<Listed<Row>, TableFault>
+    /// Those of them with keys behind a key, or all without a key, at most so many.
+    fn rows_above_after(
+        &mut self,
+        kind: Kind,
+        institution: &[u8],
+        above: &[u8],
+        after: Option<&[u8]>,
+        most: usize,
+    ) -> Result<Listed<Row>, TableFault>
         ensures found { (state self.new).honest → IfOk result
-            (λ list. list ≡ studies_in choice.now institution.now (state self.old).rows) }
+            (λ list. list ≡ take most (rows_behind (option_copied after.entry)
+            (rows_above kind institution.now above.now (state self.old).rows))) }
+        ensures reads { Reads (state self.old) (state self.new) result };
+
+    /// The institution's studies that a choice takes. There may be no answer where the institution has so
+    /// many studies or more, so that few are read at once.
+    fn few_studies_in(
+        &mut self,
+        institution: &[u8],
+        choice: &Choice,
+        many: usize,
+    ) -> Result<Option<Listed<Row>>, TableFault>
+        ensures found { (state self.new).honest → IfOk result (λ few. IfSome few
+            (λ list. list ≡ studies_in choice.now institution.now (state self.old).rows)) }
+        ensures many { (state self.new).honest → IfOk result (λ few. few ≡ None
+            → many ≤ length (rows_of Study institution.now (state self.old).rows)) }
         ensures reads { Reads (state self.old) (state self.new) result };
 
     /// The institution's worklist entries that no performed procedure step has started (PS3.4
-    /// section K.6.1.2).
-    fn waiting(&mut self, institution: &[u8]) -> Result<Listed<Row>, TableFault>
+    /// section K.6.1.2), those with keys behind a key, or all without a key, at most so many.
+    fn waiting_after(
+        &mut self,
+        institution: &[u8],
+        after: Option<&[u8]>,
+        most: usize,
+    ) -> Result<Listed<Row>, TableFault>
         ensures found { (state self.new).honest → IfOk result
-            (λ list. list ≡ waiting_entries institution.now (state self.old).rows) }
+            (λ list. list ≡ take most (rows_behind (option_copied after.entry)
+            (waiting_entries institution.now (state self.old).rows))) }
         ensures reads { Reads (state self.old) (state self.new) result };
 
     /// How many rows of a kind the institution has.

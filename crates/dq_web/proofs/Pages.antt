@@ -1,11 +1,14 @@
 -- The answers that a page shows.
-use Rattle.std.proofs.Common.{◌≡◌, ◌+◌, ◌-◌, ◌<◌, ◌≤◌, ◌∙◌, ◌++◌, ℕ, List, [], ◌∷◌, length, take, drop, get_or, flat_map, ap, sym, refl, inl, inr, arith, length-append, length-take}
-use Rattle.std.proofs.lemmas.Bool.{cases_lt}
+use Rattle.std.proofs.Common.{◌≡◌, ◌+◌, ◌-◌, ◌<◌, ◌≤◌, ◌∙◌, ◌++◌, ℕ, nat_lt, false, List, [], ◌∷◌, length, drop, get_or, flat_map, ap, sym, refl, inl, inr, arith, length-append, append_assoc, append-nil}
+use Rattle.std.proofs.lemmas.Bool.{cases_lt, ltb-false, or_parts}
 use Rattle.std.proofs.lemmas.Bool.Decides.{nat_tests}
 use Rattle.std.proofs.lemmas.Grind.{common_steps}
-use Rattle.std.proofs.lemmas.List.{drop_more, drop-drop, drop-take}
+use Rattle.std.proofs.lemmas.List.{drop_more, drop-drop, drop_at, drop_all}
 use Rattle.dq_dataset.specs.Tree.{ElementList}
-use Rattle.dq_web.specs.Answers.{json_text, behind_comma, array_text, longest_array, fitting, shown_answers, GoesOn}
+use Rattle.dq_match.specs.declared.shown_page.ShownPage.{ShownPage}
+use Rattle.dq_match.specs.ShownPages.{shown_page, is_filled}
+use Rattle.dq_web.specs.Answers.{json_text, behind_comma, array_text, longest_array, fitting, shown_answers, found_reply, GoesOn}
+use Rattle.dq_web.specs.declared.parsed_request.Wish.{Wish}
 
 -- ---- the answers that have room
 
@@ -108,19 +111,43 @@ shown-longest (answer ∷ answers) rest next is =
     let over = fitting-over room answers rest next (ap (drop 1) is) in
     rw (array-size answer (fitting room answers ++ next ∷ [])) (omega (arith, over))
 
-shown-most : (answers : List ElementList) → length (shown_answers answers) ≤ length answers
-shown-most answers =
-    let whole = ap length (shown-front answers) in
-    omega (arith, whole, length-append (shown_answers answers) (drop (length (shown_answers answers)) answers))
+-- ---- the pages of some rows
 
-rest-of : (rows : List ElementList) (offset limit count : ℕ) → count ≤ limit
-    → take (limit - count) (drop (offset + count) rows) ≡ drop count (take limit (drop offset rows))
-rest-of rows offset limit count most =
-    let whole : count + (limit - count) ≡ limit = omega (arith, most) in
-    rw (← drop-drop count offset rows, ← drop-take count (limit - count) (drop offset rows), whole) refl
+-- the next offset goes on behind what is shown of a front of the rows behind an offset
+front-goes-on : (rows found : List ElementList) (offset : ℕ) → found ++ drop (offset + length found) rows ≡ drop offset rows
+    → shown_answers found ++ drop (offset + length (shown_answers found)) rows ≡ drop offset rows
+front-goes-on rows found offset front =
+    let shown = shown_answers found in
+    let count = length shown in
+    let rest = drop (offset + length found) rows in
+    let left = drop count found ++ rest in
+    let whole : drop offset rows ≡ shown ++ left =
+    sym front ∙ ap (λ (answers : List ElementList). answers ++ rest) (sym (shown-front found))
+    ∙ append_assoc shown (drop count found) rest in
+    ap (λ (answers : List ElementList). shown ++ answers)
+    (sym (drop-drop count offset rows) ∙ ap (drop count) whole ∙ drop_at shown left count refl)
+    ∙ sym whole
 
--- what a page of rows leaves out is what the next offset begins with
-pub next-offset : (rows : List ElementList) (offset limit : ℕ) → GoesOn rows offset limit
-next-offset rows offset limit =
-    let count = length (shown_answers (take limit (drop offset rows))) in
-    rest-of rows offset limit count (omega (arith, shown-most (take limit (drop offset rows)), length-take limit (drop offset rows)))
+pub next-offset : (page : ShownPage) (rows : List ElementList)
+    → shown_page page rows ++ drop (page.offset + length (shown_page page rows)) rows ≡ drop page.offset rows
+    → GoesOn page rows
+next-offset page rows front = front-goes-on rows (shown_page page rows) page.offset front
+
+pub some-shown : (answers : List ElementList) → 0 < length answers → 0 < length (shown_answers answers)
+some-shown [] there = absurd (omega (arith, there))
+some-shown (answer ∷ answers) there = omega arith
+
+-- where all that are found are shown, and do not fill the page, they are all
+pub all-shown : (wish : Wish) (page : ShownPage) (found rest : List ElementList)
+    → (is_filled page found ≡ false → found ≡ rest) → (0 < length rest → 0 < length found)
+    → (found_reply wish page found).is_full ≡ false → shown_answers found ≡ rest
+all-shown wish page [] [] all some said = refl
+all-shown wish page [] (next ∷ rest) all some said = absurd (omega (arith, some (omega arith)))
+all-shown wish page (answer ∷ answers) rest all some said =
+    let found = answer ∷ answers in
+    let count = length (shown_answers found) in
+    let both = or_parts (nat_lt count (length found)) (is_filled page found) said in
+    let most : length found ≤ count = ltb-false count (length found) both.0 in
+    sym (append-nil (shown_answers found))
+    ∙ ap (λ (answers : List ElementList). shown_answers found ++ answers) (sym (drop_all count found most))
+    ∙ shown-front found ∙ all both.1

@@ -1,5 +1,5 @@
 -- How what the server answered becomes a response of HTTP.
-use Rattle.std.specs.Prelude.{◌≡◌, ℕ, ◌==◌, ◌++◌, ◌||◌, ◌&&◌, nat_le, nat_lt, ◌+◌, ◌-◌, Bool, false, if◌then◌else◌, List, [], ◌∷◌, flat_map, find, length, take, drop, codes, Option, Some}
+use Rattle.std.specs.Prelude.{◌≡◌, ℕ, ◌==◌, ◌++◌, ◌||◌, ◌&&◌, nat_le, nat_lt, ◌+◌, ◌-◌, Bool, false, if◌then◌else◌, List, [], ◌∷◌, flat_map, find, length, drop, codes, Option, Some}
 use Rattle.std.specs.Fmt.{decimal}
 use Rattle.std.specs.Str.{bytes_eq}
 use Rattle.json.specs.Print.{print}
@@ -9,6 +9,7 @@ use Rattle.dq_json.specs.declared.json_fault.JsonFault.{JsonFault}
 use Rattle.dq_json.specs.Faults.{fault_text}
 use Rattle.dq_json.specs.Json.{json_tokens}
 use Rattle.dq_match.specs.declared.shown_page.ShownPage.{ShownPage}
+use Rattle.dq_match.specs.ShownPages.{shown_page, is_filled}
 use Rattle.dq_request.specs.declared.request.Request.{Request}
 use Rattle.dq_request.specs.declared.request.Request.TheVariants as ask
 use Rattle.dq_request.specs.declared.response.Cause.{Cause}
@@ -127,21 +128,18 @@ abbrev pub shown_answers : List ElementList → List ElementList
 shown_answers [] = []
 shown_answers (answer ∷ answers) = answer ∷ fitting (longest_array - (length (json_text answer) + 2)) answers
 
--- The rows of which a page shows the first answers go on, at the next offset, with the first that it leaves out.
-abbrev pub GoesOn : List ElementList → ℕ → ℕ → Type 0
-GoesOn rows offset limit =
-    let found = take limit (drop offset rows) in
-    let count = length (shown_answers found) in
-    take (limit - count) (drop (offset + count) rows) ≡ drop count found
+-- A response shows a front of the rows behind its offset, and the next offset goes on with the first that it leaves out.
+abbrev pub GoesOn : ShownPage → List ElementList → Type 0
+GoesOn page rows =
+    let shown = shown_answers (shown_page page rows) in
+    shown ++ drop (page.offset + length shown) rows ≡ drop page.offset rows
 
--- A page is full where it shows fewer answers than were found, or has as many as it was asked for, or 1,000: there may
--- be more behind it.
-abbrev pub is_full : ShownPage → ℕ → ℕ → Bool
-is_full page found shown =
-    nat_lt shown found || nat_lt 0 found && (nat_le page.limit found || nat_le 1000 found)
+-- A response is full where it shows fewer answers than were found, or these fill the page: there may be more behind it.
+abbrev pub is_full : ShownPage → List ElementList → ℕ → Bool
+is_full page found shown = nat_lt shown (length found) || is_filled page found
 
 -- a response to a search, which says where matching was to be fuzzy and was not, where a parameter was passed over, and
--- where the page is full
+-- where there may be more answers
 abbrev pub search_reply : Wish → Status → List ℕ → Bool → Reply
 search_reply wish status body full = record {
   status = status;
@@ -163,7 +161,7 @@ abbrev pub found_reply : Wish → ShownPage → List ElementList → Reply
 found_reply wish page [] = empty_reply wish
 found_reply wish page (answer ∷ answers) =
     let shown = shown_answers (answer ∷ answers) in
-    search_reply wish status.Done (array_text shown) (is_full page (length (answer ∷ answers)) (length shown))
+    search_reply wish status.Done (array_text shown) (is_full page (answer ∷ answers) (length shown))
 
 -- ---- counts
 

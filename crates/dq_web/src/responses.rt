@@ -32,9 +32,6 @@ pub(crate) const LIMIT: &str = ",\"limit\":";
 
 pub(crate) const CLOSE: &str = "}}";
 
-/// The most answers of a page.
-const LONGEST_PAGE: usize = 1000;
-
 /// The most octets of a page's array, unless its first answer alone is longer.
 const LONGEST_ARRAY: usize = 0x80_0000;
 
@@ -218,12 +215,12 @@ fn put_shown(
     Ok(count)
 }
 
-/// Whether there may be more answers than a page shows: it shows fewer than were found, or these are
-/// as many as it may have.
-fn is_full(page: ShownPage, found: usize, shown: usize) -> bool
-    ensures { result ≡ is_full page found shown }
+/// Whether there may be more answers than a response shows: it shows fewer than were found, or these fill
+/// the page.
+fn is_full(page: ShownPage, found: &[DataSet], shown: usize) -> bool
+    ensures { result ≡ is_full page found.now shown }
 {
-    shown < found || found > 0 && (found >= page.limit || found >= LONGEST_PAGE)
+    shown < found.len() || page.is_filled_by(found)
 }
 
 /// A response to a search.
@@ -267,7 +264,7 @@ fn found_reply(
     };
     let mut body = Vec::new(alloc);
     let shown = put_shown(alloc, &mut body, first, others)?;
-    let is_full = is_full(page, answers.len(), shown + 1);
+    let is_full = is_full(page, answers, shown + 1);
     Ok(search_reply(wish, Status::Done, body, is_full))
 }
 

@@ -33,7 +33,7 @@ use Rattle.dq_archive.proofs.UniqueKeys.{only_named}
 use Rattle.dq_archive.proofs.OwnRecords.{of_each, passed, value_from}
 use Rattle.dq_worklist.specs.Candidates.{id_asked_in, id_asked, entries_with, entry_candidates, entry_answer}
 use Rattle.dq_worklist.specs.Queries.{answers_of_entries}
-use Rattle.dq_worklist.proofs.Queries.{row_answers}
+use Rattle.dq_worklist.specs.EntryReads.{row_answers}
 use Rattle.dq_worklist.proofs.Steps.{AllKnownInside, EachAlone, ItemsMet, HasStep, fits_alone}
 
 -- ---- what an entry's own key is
@@ -83,22 +83,23 @@ none_by : (keys d : ElementList) (b : Bool) → fits keys d ≡ b → (fits keys
 none_by keys d true is other = absurd (other is)
 none_by keys d false is other = refl
 
--- ---- the rows of those that are looked at
+-- ---- the answers of those that are looked at
 
-pub all_candidates : (institution : List ℕ) (records : List Record) (keys : ElementList) → None ≡ id_asked keys
-    → map (row_of institution) (waiting_among records) ≡ map (row_of institution) (entry_candidates records keys)
-all_candidates institution records keys none = ap (λ (o : Option (List ℕ)). map (row_of institution) (entries_with records o)) none
+pub by_waiting_alone : (records : List Record) (keys : ElementList) → None ≡ id_asked keys
+    → filter_map (entry_answer keys) (waiting_among records) ≡ filter_map (entry_answer keys) (entry_candidates records keys)
+by_waiting_alone records keys none = ap (λ (o : Option (List ℕ)). filter_map (entry_answer keys) (entries_with records o)) none
 
 mapped : (institution : List ℕ) (o : Option Record) → option_to_list (option_map (row_of institution) o) ≡ map (row_of institution) (option_to_list o)
 mapped institution None = refl
 mapped institution (Some r) = refl
 
-pub one_candidate : (institution : List ℕ) (records : List Record) (keys : ElementList) (id : List ℕ) (row : Option Row) (listed : List Row)
+pub by_one : (institution : List ℕ) (records : List Record) (keys : ElementList) (id : List ℕ) (row : Option Row) (listed : List Row)
     → Some id ≡ id_asked keys → row ≡ option_map (row_of institution) (record_at Entry id records) → listed ≡ option_to_list row
-    → listed ≡ map (row_of institution) (entry_candidates records keys)
-one_candidate institution records keys id row listed asked found is =
-    is ∙ ap option_to_list found ∙ mapped institution (record_at Entry id records)
-    ∙ ap (λ (o : Option (List ℕ)). map (row_of institution) (entries_with records o)) asked
+    → row_answers keys listed ≡ filter_map (entry_answer keys) (entry_candidates records keys)
+by_one institution records keys id row listed asked found is =
+    ap (row_answers keys) (is ∙ ap option_to_list found ∙ mapped institution (record_at Entry id records))
+    ∙ given_of_each (λ (row : Row). entry_answer keys (record_of row)) (row_of institution) (option_to_list (record_at Entry id records))
+    ∙ ap (λ (o : Option (List ℕ)). filter_map (entry_answer keys) (entries_with records o)) asked
 
 -- what those give that wait
 waiting_give : (keys : ElementList) (entries : List Record)
@@ -137,8 +138,6 @@ module _ (each_alone : EachAlone) (items_met : ItemsMet) (institution : List ℕ
       (λ r h other. (let none = other_gives_none id is r h (λ same. cc (sym other ∙ (bytes_eq-Decides r.key id).1 same)) in grind arith))
 
   -- the answers of the entries that are looked at
-  pub answered_of_candidates : row_answers keys (map (row_of institution) (entry_candidates (of institution rows) keys)) ≡ answers_of_entries (of institution rows) keys
+  pub answered_of_candidates : filter_map (entry_answer keys) (entry_candidates (of institution rows) keys) ≡ answers_of_entries (of institution rows) keys
   unfolding answers_of_entries
-  answered_of_candidates =
-      given_of_each (λ (row : Row). entry_answer keys (record_of row)) (row_of institution) (entry_candidates (of institution rows) keys)
-      ∙ by_asked (id_asked keys) refl ∙ sym (waiting_give keys (records_of Entry (of institution rows)))
+  answered_of_candidates = by_asked (id_asked keys) refl ∙ sym (waiting_give keys (records_of Entry (of institution rows)))

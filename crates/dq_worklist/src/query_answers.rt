@@ -1,20 +1,22 @@
 //! The answers to a worklist query (PS3.4 section K.4.1.3).
-ghost use Rattle.std.specs.Prelude.{◌≡◌, false, List, [], map, IfOk};
+ghost use Rattle.std.specs.Prelude.{◌≡◌, false, List, [], IfOk};
 ghost use Rattle.std.specs.Option.{option_copied, option_to_list};
 ghost use Rattle.std.specs.List.{filter_map};
 ghost use Rattle.std.specs.Result.{result_ok};
 ghost use Rattle.dq_dimse.specs.Holding.{plain_message};
 ghost use Rattle.dq_dimse.specs.Receiving.{identifier_in};
-ghost use Rattle.dq_match.specs.Parts.{part_of, found_of};
+ghost use Rattle.dq_match.specs.Parts.{found_of, with_others};
 ghost use Rattle.dq_match.specs.Identifiers.{HasKnownTags};
 ghost use Rattle.dq_match.specs.Matching.{fits};
 ghost use Rattle.dq_match.specs.ShownPages.{found_page};
+ghost use Rattle.dq_match.specs.declared.responses.Found.{Found as TheFound};
 ghost use Rattle.dq_tables.specs.Records.{data_set_of};
-ghost use Rattle.dq_tables.specs.declared.row.Row.{Row as TheRow};
 ghost use Rattle.dq_tables.specs.TableStates.{Reads};
-ghost use Rattle.dq_tables.specs.Rows.{Record, of, record_of, row_of};
+ghost use Rattle.dq_tables.specs.Rows.{Record, of, record_of};
+ghost use Rattle.dq_tables.specs.Lookups.{waiting_among};
 ghost use Rattle.dq_archive.specs.Archives.{QueriesOnly};
 ghost use Rattle.dq_worklist.specs.Candidates.{id_asked, entry_candidates, entry_answer};
+ghost use Rattle.dq_worklist.specs.EntryReads.{Takes, last_key, row_answers};
 ghost use Rattle.dq_tables.specs.ServiceEffects.{Serves};
 ghost use Rattle.dq_worklist.specs.Queries.{listed_by, worklist_outcome, keys_outcome};
 
@@ -43,6 +45,9 @@ static MET_LATER: [Tag; 6] = [
     tags::SCHEDULED_PROCEDURE_STEP_START_TIME,
 ];
 
+/// So many entries are read in one call of the tables, at most: each may have 16 MiB.
+const ENTRIES_AT_ONCE: usize = 16;
+
 /// The id of the step that the keys ask for, where it is one value without wild cards.
 #[tactic(auto, unfolding(crate::specs::Candidates::id_asked))]
 fn id_asked(keys: &DataSet) -> Option<&[u8]>
@@ -62,22 +67,6 @@ fn listed(alloc: Global, row: Option<Row>) -> Result<Listed<Row>, AllocError>
         rows.push(row)?;
     }
     Ok(rows)
-}
-
-/// The entries that are looked at: where the keys ask for one step's id, no other entry can match,
-/// and where they do not, none that is started.
-fn candidates<T: Tables>(
-    archive: &mut Archive<'_, T>,
-    keys: &DataSet,
-) -> Result<Listed<Row>, TableFault>
-    ensures { QueriesOnly T.state archive.old archive.new (λ records.
-        map (row_of archive.old.institution.now.name) (entry_candidates records keys.now)) result }
-{
-    let Some(id) = id_asked(keys) else {
-        return archive.waiting();
-    };
-    let row = archive.row(Kind::Entry, id)?;
-    Ok(listed(archive.alloc, row)?)
 }
 
 /// Whether an entry can fit the keys, as far as its octets tell before they are read.
@@ -110,29 +99,105 @@ fn answer_of(
     Ok(Some(shown(alloc, keys, &held)?))
 }
 
-/// The answers that rows give to the keys, from a place on, at most so many where there is a most. No
-/// row is looked at behind the last of them.
-fn answers_of(
+/// Takes the answers that rows give to the keys into a page, in their order. No row is looked at once it is full.
+fn take_answers(
     alloc: Global,
     keys: &DataSet,
+    prepared: &PreparedKeys,
     rows: &[Row],
-    from: usize,
-    most: Option<usize>,
-) -> Result<Listed<DataSet>, AllocError>
-    requires { HasKnownTags keys.now }
-    ensures { IfOk result (λ answers. answers ≡ part_of from most (filter_map
-        (λ (row : TheRow). entry_answer keys.now (record_of row)) rows.now)) }
+    page: &mut PageCollector,
+) -> Result<(), AllocError>
+    requires known { HasKnownTags keys.now }
+    requires prepared { prepared.now ≡ keys.now }
+    ensures { IfOk result (λ _. Takes page.old (row_answers keys.now rows.now) page.new) }
 {
-    let prepared = PreparedKeys::of(alloc, keys)?;
-    let mut part = PageCollector::new(alloc, from, most);
     for row in rows {
-        if part.is_full() {
-            return Ok(part.into_answers());
+        if page.is_full() {
+            return Ok(());
         }
-        let answer = answer_of(alloc, keys, &prepared, row)?;
-        part.take(answer)?;
+        let answer = answer_of(alloc, keys, prepared, row)?;
+        page.take(answer)?;
     }
-    Ok(part.into_answers())
+    Ok(())
+}
+
+/// The octets of a key, if there is one.
+fn octets_of(key: &Option<Listed<u8>>) -> Option<&[u8]>
+    ensures { option_copied result ≡ key.now }
+{
+    match key {
+        Some(key) => Some(key.as_slice()),
+        None => None,
+    }
+}
+
+/// The key of the last of some rows.
+fn last_key(rows: Listed<Row>) -> Option<Listed<u8>>
+    ensures { result ≡ last_key rows }
+{
+    let mut rows = rows.into_inner();
+    let last = rows.pop()?;
+    Some(last.key)
+}
+
+/// The answers that the entries that wait give to the keys, those of them that a page takes. The entries are
+/// read a few at a time, and none once the page is full.
+fn answers_of_waiting<T: Tables>(
+    archive: &mut Archive<'_, T>,
+    keys: &DataSet,
+    prepared: &PreparedKeys,
+    mut page: PageCollector,
+) -> Result<Listed<DataSet>, TableFault>
+    requires known { HasKnownTags keys.now }
+    requires prepared { prepared.now ≡ keys.now }
+    ensures { QueriesOnly T.state archive.old archive.new (λ records. with_others page
+        (filter_map (entry_answer keys.now) (waiting_among records))) result }
+{
+    honest_rows_are_sound::<T>();
+    let mut after = None;
+    for _ in 0..u64::MAX {
+        if page.is_full() {
+            return Ok(page.into_answers());
+        }
+        let rows = archive.waiting_after(octets_of(&after), ENTRIES_AT_ONCE)?;
+        take_answers(archive.alloc, keys, prepared, rows.as_slice(), &mut page)?;
+        let Some(key) = last_key(rows) else {
+            return Ok(page.into_answers());
+        };
+        after = Some(key);
+    }
+    Err(TableFault::NoMemory)
+}
+
+/// The answers that the entries give to the keys which are looked at, those of them that a page takes: where
+/// the keys ask for one step's id, no other entry can match, and where they do not, none that is started.
+fn answers_of<T: Tables>(
+    archive: &mut Archive<'_, T>,
+    keys: &DataSet,
+    mut page: PageCollector,
+) -> Result<Listed<DataSet>, TableFault>
+    requires { HasKnownTags keys.now }
+    ensures { QueriesOnly T.state archive.old archive.new (λ records. with_others page
+        (filter_map (entry_answer keys.now) (entry_candidates records keys.now))) result }
+{
+    let prepared = PreparedKeys::of(archive.alloc, keys)?;
+    let Some(id) = id_asked(keys) else {
+        return answers_of_waiting(archive, keys, &prepared, page);
+    };
+    let row = archive.row(Kind::Entry, id)?;
+    let rows = listed(archive.alloc, row)?;
+    take_answers(archive.alloc, keys, &prepared, rows.as_slice(), &mut page)?;
+    Ok(page.into_answers())
+}
+
+/// Takes all answers, or those of a page.
+fn collector(alloc: Global, page: Option<ShownPage>) -> PageCollector
+    ensures { (found : TheFound) → with_others result found.answers ≡ (found_of page found).answers }
+{
+    match page {
+        Some(page) => PageCollector::of_page(alloc, page),
+        None => PageCollector::of_all(alloc),
+    }
 }
 
 /// Answers a worklist C-FIND from the entries of an institution that wait: those that fit, in order
@@ -170,7 +235,7 @@ pub fn query_with_identifier<T: Tables>(
     let mut archive = Archive::new(tables, institution);
     let identifier = message.identifier(archive.alloc, syntax)?;
     let asked = query_of(archive.alloc, &identifier)?;
-    let found = answers_to(&mut archive, asked, 0, None)?;
+    let found = answers_to(&mut archive, asked, None)?;
     Ok((found, identifier.ok()))
 }
 
@@ -189,20 +254,18 @@ pub fn query_by_keys<T: Tables>(
 {
     let mut kept = Archive::new(tables, institution);
     let asked = query_at(kept.alloc, identifier)?;
-    answers_to(&mut kept, asked, page.offset, Some(page.most()))
+    answers_to(&mut kept, asked, Some(page))
 }
 
-/// The answers to a query from a place on, at most so many where there is a most, or the status that
-/// refuses it.
+/// The answers to a query, all or those of a page, or the status that refuses it.
 fn answers_to<T: Tables>(
     archive: &mut Archive<'_, T>,
     asked: Result<Query, u16>,
-    from: usize,
-    most: Option<usize>,
+    page: Option<ShownPage>,
 ) -> Result<Found, TableFault>
     requires { IfOk asked (λ query. HasKnownTags query.keys) }
     ensures { QueriesOnly T.state archive.old archive.new (λ (records : List Record).
-        found_of from most (listed_by records asked)) result }
+        found_of page (listed_by records asked)) result }
 {
     let query = match asked {
         Ok(query) => query,
@@ -211,8 +274,8 @@ fn answers_to<T: Tables>(
     query.keys.has_facts();
     honest_rows_are_sound::<T>();
     keys_are_met_alone_and_as_a_period();
-    let rows = candidates(archive, &query.keys)?;
-    let answers = answers_of(archive.alloc, &query.keys, rows.as_slice(), from, most)?;
+    let page = collector(archive.alloc, page);
+    let answers = answers_of(archive, &query.keys, page)?;
     Ok(Found {
         status: SUCCESS,
         optional: query.optional,

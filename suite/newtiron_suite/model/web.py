@@ -17,13 +17,13 @@ from .replies import Institution
 from .services import Records
 from .upper_layer import EXPLICIT
 
-# The levels of a Study Root search (PS3.4 section C.6.2); how many answers a page has, and how many
-# octets its array, unless its first answer alone is longer.
+# The levels of a Study Root search (PS3.4 section C.6.2); how many answers a page has; how many
+# octets of data sets fill it; and how many its array has, unless its first answer alone is longer.
 LEVELS = {"studies": b"STUDY", "series": b"SERIES", "images": b"IMAGE", "study images": b"IMAGE"}
 USUAL_PAGE, LONGEST_PAGE, LONGEST_VALUE = 100, 1000, 65534
 # The unique key of the levels (PS3.4 section C.6.2.1) whose pages may begin after one.
 UNIQUE_KEYS = {"studies": (0x0020, 0x000D), "series": (0x0020, 0x000E), "images": (0x0008, 0x0018)}
-LONGEST_ARRAY = 8 * 1024 * 1024
+FILLED_PAGE, LONGEST_ARRAY = 8 * 1024 * 1024, 8 * 1024 * 1024
 CHARACTER_SET, LEVEL, STEPS = (0x0008, 0x0005), (0x0008, 0x0052), (0x0040, 0x0100)
 LEFT_OUT = ("includefield=", "fuzzymatching=")
 # Text of these is in the record's character set, and there may be several values (PS3.5 sections
@@ -51,7 +51,7 @@ LITERAL = ('299 newtiron "The fuzzymatching parameter is not supported. Only lit
            'been performed."')
 # The same where a parameter is unknown, which is passed over.
 IGNORED = '299 newtiron "An unknown parameter was ignored."'
-# The same where a page has as many answers as it may have, or there was no room for the next.
+# The same where a page is filled, or there was no room for the next of its answers.
 FULL = '299 newtiron "The page is full. Additional results can be requested by offset."'
 # The media types under which an entry is sent as a data set: its own, that of any octets, and the
 # one that senders give what they know no type of.
@@ -210,7 +210,26 @@ def searched(records: Records, subject: str, text: str,
         else:
             _, found, status = services.find(records, b"", asked, EXPLICIT)
     found = [one for one in found if is_behind(one, subject, page.after)]
-    return found[page.offset:][:min(page.limit, LONGEST_PAGE)], status
+    return page_of(page, found), status
+
+
+def octets_of(answer: list[Element]) -> int:
+    """How many octets an answer has as a data set, in Explicit VR Little Endian."""
+    return len(data_sets.canonical(answer, data_sets.EXPLICIT))
+
+
+def page_of(page: Page, found: list[list[Element]]) -> list[list[Element]]:
+    """What a page has of all answers: from its offset on at most as many as it may have, up to the
+    one that fills it."""
+    some = found[page.offset:][:min(page.limit, LONGEST_PAGE)]
+    before = itertools.accumulate(map(octets_of, some), initial=0)
+    return [one for one, octets in zip(some, before) if octets < FILLED_PAGE]
+
+
+def is_filled(page: Page, found: list[list[Element]]) -> bool:
+    """Whether a page that has these answers has as many as it may have, or is filled by them."""
+    return (len(found) == min(page.limit, LONGEST_PAGE)
+            or sum(map(octets_of, found)) >= FILLED_PAGE)
 
 
 def is_behind(answer: list[Element], subject: str, after: bytes | None) -> bool:
@@ -248,9 +267,8 @@ def answered(records: Records, subject: str, text: str,
         return refused(413 if status == services.OUT_OF_RESOURCES else 400, f"{status:04X}")
     if not found:
         return Answer(204)
-    limit = words_of(text, subject)[1].limit
     shown = shown_of([json_of(one).encode() for one in found])
-    is_full = len(shown) < len(found) or len(found) == min(limit, LONGEST_PAGE)
+    is_full = len(shown) < len(found) or is_filled(words_of(text, subject)[1], found)
     return Answer(200, DICOM_JSON, array_of(shown), {"Warning": FULL} if is_full else {})
 
 

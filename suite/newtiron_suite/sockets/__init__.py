@@ -5,6 +5,9 @@
                 model answers it
     pages       searches of thousands of studies: others are served between pages, a C-CANCEL ends
                 them, one that is never read is kept within memory
+    between     between pages of a search by days, and of one for the images of a series: stores
+                change nothing of what it finds, a C-CANCEL and a release end it; between=days, or
+                between=images, is one of them
     histories   two hospitals and strangers at the same time, at random: what each is answered is
                 what `replay` answers its own events alone
     many        64 connections are served; a 65th waits, and is served when one of them closes
@@ -32,7 +35,8 @@
                 under load, those that are refused, that the disk refuses at each call, and that
                 SIGKILL ends at random
     searches    what the console shows of two hospitals with the same UIDs: studies, series, images,
-                entries and steps, page by page, and its refusals
+                entries and steps, page by page, and its refusals; pages of large entries and
+                steps, which end at 8 MiB
     memory      each allocation refused in turn while the console answers a search, a report and an
                 order: its client is let go, and others are served, or an order ends the service
     file        the rights of the files that the server makes; the console's socket file: one that
@@ -56,6 +60,7 @@ import sys
 
 from ..tally import Part, play_parts
 from .backup import backup
+from .between import between
 from .captures import captures, loopback, two_hospitals
 from .common import WANTED
 from .console import browser, callers, console, file, searches
@@ -68,8 +73,8 @@ from .stops import repeats, stops
 from .tools import tools
 
 PARTS: dict[str, Part] = {
-    "captures": captures, "histories": two_hospitals, "pages": pages, "many": many,
-    "shares": shares, "unread": unread, "deaf": deaf, "resets": resets, "half": half,
+    "captures": captures, "histories": two_hospitals, "pages": pages, "between": between,
+    "many": many, "shares": shares, "unread": unread, "deaf": deaf, "resets": resets, "half": half,
     "lingering": lingering, "long": long, "stops": stops, "repeats": repeats, "idle": idle,
     "exits": exits, "listen": listen, "loopback": loopback, "console": console, "backup": backup,
     "searches": searches, "memory": memory, "file": file, "callers": callers, "browser": browser,

@@ -11,7 +11,7 @@ import time
 from typing import Any
 
 from ..client import HOST, PATIENCE, Caller, Client, Serving, free_port
-from ..model import serving
+from ..model import large_rows, serving
 from ..paths import configured
 from ..scenes import composed, message
 from ..tally import Tally, skip
@@ -200,6 +200,31 @@ def searches(tally: Tally, _: object) -> None:
         tally.check("a search of nobody", told_to(server.console(), b"studies\n") == b"bad line\n")
         tally.check("searches: it goes on", desk.ask("report").startswith("NORTH studies 3 ")
                     and not server.errors(), server.errors())
+    large_searches(tally)
+
+
+def large_searches(tally: Tally) -> None:
+    """A page of the console ends with the answer that fills 8 MiB, and says no word of it: one
+    reads on until none comes."""
+    with Serving(PROGRAM, *configured("hospitals"), has_console=True) as server:
+        client, desk, ids = associated(server, "CT1"), server.console(), []
+        for at in range(20):
+            ids.append(f"L{at:02}")
+            item = large_rows.item(ENTRY.format(ids[-1]), large_rows.LETTERS)
+            tally.check(f"a large item, {at}", desk.ask(f"schedule NORTH {item.hex()}") == "done")
+            client.send(large_rows.step(at, large_rows.LETTERS))
+            tally.check(f"a large step, {at}", client.status() == 0)
+        for kind, key_of in (
+                ("worklist", lambda one: value_in(value_in(one, STEP_ITEM), "00400009")),
+                ("steps", lambda one: value_in(one, "00100020"))):
+            for words, first, last in (("", 0, 9), ("limit=20 offset=9", 9, 18),
+                                       ("offset=18", 18, 20), ("offset=20", 20, 20),
+                                       ("limit=4 offset=2", 2, 6), ("limit=9", 0, 9)):
+                found, end = shown(desk, f"{kind} NORTH {words}".rstrip())
+                tally.check(f"large {kind}, {words}", [key_of(one) for one in found]
+                            == ids[first:last] and end == f"end {last - first}", len(found), end)
+        tally.check("large searches: it goes on", is_alive(client) and not server.errors(),
+                    server.errors())
 
 
 def bad_lines(tally: Tally, server: Serving, schedule: str, withdraw: str) -> None:

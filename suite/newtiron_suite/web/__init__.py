@@ -10,7 +10,12 @@
     searches    studies, series, images, entries and steps, page by page, with keys and with words
                 that are none; forms that are accepted, and the warning of fuzzy matching
     entries     what is sent to the worklist is found by DICOM and by HTTP, and withdrawn; each
-                refusal of both; pages that end at 8 MiB
+                refusal of both
+    arrays      pages of large items, which end at 8 MiB of JSON, show each row once and say that
+                there are more
+    pages       the same of items, steps and studies whose JSON is short and whose data sets fill a
+                page
+    peaks       the memory that such pages take does not grow with the rows that there are
     looks       nothing that is looked at changes anything
     methods     other methods, HEAD, paths that are none, and those that go up
     hosts       names of the host, targets in absolute-form, origins and sites that are refused,
@@ -57,6 +62,7 @@ from .one_line import one_line
 from .operator import backup, curl, log, metrics
 from .others import nginx, orthanc, proxies
 from .page import browser, items, lists, page, picture
+from .pages import arrays, pages, peaks
 from .requests import grammar, hosts, methods
 from .rights import anew, rights
 from .searches import hospitals, searches
@@ -64,11 +70,12 @@ from .viewers import viewers
 
 PARTS: dict[str, Part] = {
     "page": page, "keys": keys, "rights": rights, "anew": anew, "hospitals": hospitals,
-    "searches": searches, "entries": entries, "looks": looks, "methods": methods, "hosts": hosts,
-    "viewers": viewers, "grammar": grammar, "lingering": lingering, "slow": slow, "late": late,
-    "crowd": crowd, "places": places, "many": many, "metrics": metrics, "backup": backup,
-    "log": log, "line": one_line, "memory": memory, "proxies": proxies, "curl": curl,
-    "lists": lists, "items": items, "browser": browser, "orthanc": orthanc, "nginx": nginx,
+    "searches": searches, "entries": entries, "arrays": arrays, "pages": pages, "peaks": peaks,
+    "looks": looks, "methods": methods, "hosts": hosts, "viewers": viewers, "grammar": grammar,
+    "lingering": lingering, "slow": slow, "late": late, "crowd": crowd, "places": places,
+    "many": many, "metrics": metrics, "backup": backup, "log": log, "line": one_line,
+    "memory": memory, "proxies": proxies, "curl": curl, "lists": lists, "items": items,
+    "browser": browser, "orthanc": orthanc, "nginx": nginx,
 }
 
 

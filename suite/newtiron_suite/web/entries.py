@@ -4,15 +4,10 @@ import pathlib
 import signal
 from typing import Any
 
-from ..model import compose, data_sets, services
 from ..scenes import SERVED
 from ..tally import Tally
-from .common import STEP, Pair, entry_octets, entry_words, rows_of
+from .common import STEP, Pair, entry_octets, rows_of
 from .searches import SEARCHES
-
-# The most octets of a text with a length of 16 bits, and of the array of a page with more than one
-# answer; how many the text of a large entry has, and in how many items.
-LONGEST_TEXT, LONGEST_ARRAY, LARGE, ITEMS = 65534, 8 * 1024 * 1024, 975000, 15
 
 
 def entries(tally: Tally, folder: pathlib.Path) -> None:
@@ -75,7 +70,6 @@ def entries(tally: Tally, folder: pathlib.Path) -> None:
         pair.compare(tally, "a large one", "POST", "/SOUTH/worklist", "SOUTH", body=large)
         pair.is_right(tally, "entries")
     json_entries(tally, folder)
-    large_entries(tally, folder)
     store_of_entries(tally, folder)
 
 
@@ -146,76 +140,6 @@ def json_entries(tally: Tally, folder: pathlib.Path) -> None:
             pair.compare(tally, f"a data set as {kind}", "POST", "/NORTH/worklist", "NORTH",
                          body=entry_octets(f"D{at}"), fields=[f"Content-Type: {kind}"])
         pair.is_right(tally, "entries as JSON")
-
-
-def large_entry(identity: str, size: int = LARGE) -> bytes:
-    """An entry with a text of this many octets, in the items of a sequence."""
-    each = size // ITEMS
-    lengths = [each] * (ITEMS - 1) + [size - each * (ITEMS - 1)]
-    items = [{"00104000": {"vr": "LT", "Value": ["x" * length]}} for length in lengths]
-    return json_entry(identity, more={"00081110": {"vr": "SQ", "Value": items}})
-
-
-def entry_of_names(identity: str) -> bytes:
-    """An entry of 1 MB that has over 8 MiB as JSON: names of many values, of two octets each."""
-    names = "\\".join("A" * (LONGEST_TEXT // 2)).encode()
-    items = [[((0x0008, 0x0090), "PN", data_sets.padded("PN", names))] for _ in range(ITEMS)]
-    found = compose.data_set(compose.words_of(entry_words(identity), 1))
-    return data_sets.canonical(
-        services.with_element(found, ((0x0008, 0x1110), "SQ", items)), data_sets.EXPLICIT)
-
-
-def page_of_worklist(tally: Tally, pair: Pair, words: str) -> tuple[list[str], bool, int]:
-    """The step IDs of a page of NORTH's worklist, whether it says that there may be more, and how
-    many octets it has. It is the model's."""
-    target = f"/NORTH/worklist?{words}"
-    told, wanted = pair.ask("GET", target, "NORTH"), pair.expected("GET", target, "NORTH")
-    warning = told.fields.get("warning")
-    tally.check(f"a page of large entries, {words}",
-                not told.faults and (told.status, told.body, warning)
-                == (wanted.status, wanted.body, wanted.fields.get("Warning")),
-                told.head, wanted.status, wanted.fields, len(wanted.body))
-    found = [entry["00400100"]["Value"][0]["00400009"]["Value"][0]
-             for entry in (told.json() if told.body else [])]
-    return found, "The page is full" in (warning or ""), len(told.body)
-
-
-def large_entries(tally: Tally, folder: pathlib.Path) -> None:
-    """A page ends before the answer that would make its array longer than 8 MiB, and the next
-    offset goes on there."""
-    ids = [f"L{at:02}" for at in range(12)]
-    with Pair(folder, configuration="hospitals") as pair:
-        def send(body: bytes, kind: str = "application/dicom+json") -> None:
-            pair.compare(tally, "a large entry", "POST", "/NORTH/worklist", "NORTH", body=body,
-                         fields=[f"Content-Type: {kind}"])
-
-        for one in ids:
-            send(large_entry(one))
-        seen, sizes, is_full = list[list[str]](), list[int](), True
-        while is_full and len(seen) <= len(ids):
-            found, is_full, size = page_of_worklist(tally, pair, f"offset={len(sum(seen, []))}")
-            seen, sizes = [*seen, found], [*sizes, size]
-        tally.check("large entries come once each, in order", seen == [ids[:8], ids[8:]], seen)
-        tally.check("no page is longer than 8 MiB", max(sizes) <= LONGEST_ARRAY, sizes)
-        for limit in (4, 8, 9, 20):
-            told = page_of_worklist(tally, pair, f"limit={limit}")
-            tally.check(f"{limit} large entries are asked for",
-                        told[:2] == (ids[:min(limit, 8)], True), told)
-        # the last of nine is made shorter: it fits, then to the last octet, then it does not
-        size = LARGE // 2
-        for wanted in ((ids[3:], False), (ids[3:], False), (ids[3:11], True)):
-            pair.compare(tally, "the last", "DELETE", f"/NORTH/worklist/{ids[-1]}", "NORTH")
-            send(large_entry(ids[-1], size))
-            told = page_of_worklist(tally, pair, "offset=3")
-            tally.check(f"a page whose last answer has {size} octets", told[:2] == wanted, told)
-            size += LONGEST_ARRAY - told[2] or 1
-        send(entry_of_names("A00"), "application/dicom")
-        told = page_of_worklist(tally, pair, "limit=9")
-        tally.check("a first answer that has no room is shown alone",
-                    told[:2] == (["A00"], True) and told[2] > LONGEST_ARRAY, told)
-        told = page_of_worklist(tally, pair, "offset=1")
-        tally.check("and the others behind it", told[:2] == (ids[:8], True), told)
-        pair.is_right(tally, "large entries")
 
 
 def store_of_entries(tally: Tally, folder: pathlib.Path) -> None:

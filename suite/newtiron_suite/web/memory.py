@@ -11,7 +11,7 @@ from ..refusing import made_library
 from ..tally import Tally
 from ..web_client import Response
 from .common import Pair, entry_octets
-from .entries import large_entry
+from .pages import large_entry
 
 # What is asked, by a method and a path, and the status of its answer; and in how large steps the
 # numbers of the refused allocations go on. With EACH_ALLOCATION each one is refused, which takes

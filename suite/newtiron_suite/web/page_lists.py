@@ -6,10 +6,10 @@ import re
 from ..browser import Browser
 from ..tally import Tally
 from .common import Pair, entry_octets, store_line
-from .entries import large_entry
 from .page_help import (
     CAPTION, CELLS, HEADS, MARKUP, ROWS, STATE, STEP_IDS, TODAY, click, item_at, open_page,
     open_worklist, search_for)
+from .pages import large_entry
 
 HEADS_OF_TABLE = "[...document.querySelectorAll('thead th')].map(one => one.textContent)"
 

@@ -74,6 +74,16 @@ def web_arrays_of(most: str) -> None:
     web.LONGEST_ARRAY = int(most)
 
 
+def web_fills_pages_with(most: str) -> None:
+    """A page is filled by data sets of another length."""
+    web.FILLED_PAGE = int(most)
+
+
+def web_is_filled_by_count() -> None:
+    """A page that data sets fill does not say so."""
+    web.is_filled = lambda page, found: len(found) == min(page.limit, web.LONGEST_PAGE)
+
+
 def web_tells_no_rest() -> None:
     """A page that ends early does not say so."""
     right = web.answered

@@ -1,9 +1,11 @@
 //! Tables that fail, for tests.
-ghost use Rattle.std.specs.Prelude.{◌≡◌, ◌||◌, false, true, length, take, drop, OnOk, IfOk, IfErr, List};
+ghost use Rattle.std.specs.Prelude.{◌≡◌, ◌≤◌, ◌||◌, false, true, None, length, take, drop, OnOk, IfOk, IfErr, IfSome, List};
+ghost use Rattle.std.specs.Option.{option_copied};
+ghost use Rattle.dq_tables.specs.declared.row.Kind.TheVariants.{Study};
 ghost use Rattle.dq_tables.specs.declared.fault.TableFault.TheVariants.{Store};
 ghost use Rattle.dq_tables.specs.declared.row.Row.{Row};
 ghost use Rattle.dq_tables.specs.Rows.{after, operation_of};
-ghost use Rattle.dq_tables.specs.Lookups.{row_at, rows_of, rows_above, rows_after, waiting_entries};
+ghost use Rattle.dq_tables.specs.Lookups.{row_at, rows_of, rows_above, rows_after, rows_behind, waiting_entries};
 ghost use Rattle.dq_tables.specs.StudyChoices.{studies_in};
 ghost use Rattle.dq_tables.specs.Sound.{ChangeFits};
 ghost use Rattle.dq_tables.specs.TableStates.{Reads, Writes};
@@ -161,30 +163,63 @@ impl<T: Tables> Tables for Fused<T> {
         self.tables.rows_above(kind, institution, above)
     }
 
-    fn studies_in(&mut self, institution: &[u8], choice: &Choice) -> Result<Listed<Row>, TableFault>
+    fn rows_above_after(
+        &mut self,
+        kind: Kind,
+        institution: &[u8],
+        above: &[u8],
+        after: Option<&[u8]>,
+        most: usize,
+    ) -> Result<Listed<Row>, TableFault>
         ensures found { (⟦<Fused<T> as Tables>⟧.state self.new).honest → IfOk result
-            (λ found. found
-            ≡ studies_in choice.now institution.now (⟦<Fused<T> as Tables>⟧.state self.old).rows) }
+            (λ found. found ≡ take most (rows_behind (option_copied after.entry)
+            (rows_above kind institution.now above.now (⟦<Fused<T> as Tables>⟧.state self.old).rows))) }
         ensures reads { Reads (⟦<Fused<T> as Tables>⟧.state self.old)
             (⟦<Fused<T> as Tables>⟧.state self.new) result }
         ensures fuse { self.new.fuse ≡ self.old.fuse }
         ensures blown { self.old.fuse.blown ≡ true → result ≡ Err Store }
     {
         self.check()?;
-        self.tables.studies_in(institution, choice)
+        self.tables
+            .rows_above_after(kind, institution, above, after, most)
     }
 
-    fn waiting(&mut self, institution: &[u8]) -> Result<Listed<Row>, TableFault>
-        ensures found { (⟦<Fused<T> as Tables>⟧.state self.new).honest → IfOk result
+    fn few_studies_in(
+        &mut self,
+        institution: &[u8],
+        choice: &Choice,
+        many: usize,
+    ) -> Result<Option<Listed<Row>>, TableFault>
+        ensures found { (⟦<Fused<T> as Tables>⟧.state self.new).honest → IfOk result (λ few. IfSome few
             (λ found. found
-            ≡ waiting_entries institution.now (⟦<Fused<T> as Tables>⟧.state self.old).rows) }
+            ≡ studies_in choice.now institution.now (⟦<Fused<T> as Tables>⟧.state self.old).rows)) }
+        ensures many { (⟦<Fused<T> as Tables>⟧.state self.new).honest → IfOk result (λ few. few ≡ None
+            → many ≤ length (rows_of Study institution.now (⟦<Fused<T> as Tables>⟧.state self.old).rows)) }
         ensures reads { Reads (⟦<Fused<T> as Tables>⟧.state self.old)
             (⟦<Fused<T> as Tables>⟧.state self.new) result }
         ensures fuse { self.new.fuse ≡ self.old.fuse }
         ensures blown { self.old.fuse.blown ≡ true → result ≡ Err Store }
     {
         self.check()?;
-        self.tables.waiting(institution)
+        self.tables.few_studies_in(institution, choice, many)
+    }
+
+    fn waiting_after(
+        &mut self,
+        institution: &[u8],
+        after: Option<&[u8]>,
+        most: usize,
+    ) -> Result<Listed<Row>, TableFault>
+        ensures found { (⟦<Fused<T> as Tables>⟧.state self.new).honest → IfOk result
+            (λ found. found ≡ take most (rows_behind (option_copied after.entry)
+            (waiting_entries institution.now (⟦<Fused<T> as Tables>⟧.state self.old).rows))) }
+        ensures reads { Reads (⟦<Fused<T> as Tables>⟧.state self.old)
+            (⟦<Fused<T> as Tables>⟧.state self.new) result }
+        ensures fuse { self.new.fuse ≡ self.old.fuse }
+        ensures blown { self.old.fuse.blown ≡ true → result ≡ Err Store }
+    {
+        self.check()?;
+        self.tables.waiting_after(institution, after, most)
     }
 
     fn count(&mut self, kind: Kind, institution: &[u8]) -> Result<u64, TableFault>

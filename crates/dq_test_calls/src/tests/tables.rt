@@ -94,3 +94,24 @@ fn a_window_shows_what_stands_in_it(rt: HostRuntime) -> Result<(), Fail> {
     assert!(rt; entries_in(&mut tables, 1, 1) == Some(0));
     Ok(())
 }
+
+/// How many entries of NORTH wait behind a key, at most so many, if the tables answer.
+fn entries_behind(tables: &mut PlainTables, after: Option<&[u8]>, most: usize) -> Option<usize> {
+    let rows = tables.waiting_after(NORTH, after, most).ok()?;
+    Some(rows.len())
+}
+
+/// The only entry is behind no key and behind one before its own, and not behind its own.
+#[test]
+fn a_page_shows_what_is_behind_a_key(rt: HostRuntime) -> Result<(), Fail> {
+    let change = added(rt.alloc())?;
+    let mut tables = PlainTables::new(rt.alloc());
+    assert!(rt; tables.apply(&change) == Ok(()));
+    assert!(rt; entries_behind(&mut tables, None, 1) == Some(1));
+    assert!(rt; entries_behind(&mut tables, None, 0) == Some(0));
+    assert!(rt; entries_behind(&mut tables, Some(b"S0"), 1) == Some(1));
+    assert!(rt; entries_behind(&mut tables, Some(b"S1"), 1) == Some(0));
+    let under = tables.rows_above_after(Kind::Entry, NORTH, b"", None, 1);
+    assert!(rt; under.is_ok_and(|rows| rows.len() == 1));
+    Ok(())
+}

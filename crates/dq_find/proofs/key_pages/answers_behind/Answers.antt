@@ -1,4 +1,4 @@
-use Rattle.std.proofs.Common.{◌≡◌, ◌∙◌, [], ◌++◌, Ok, drop, take, sym, ap, append-nil}
+use Rattle.std.proofs.Common.{◌≡◌, ◌∙◌, [], ◌++◌, Ok, drop, sym, ap, append-nil}
 use Rattle.std.specs.Option.{option_copied}
 use Rattle.dq_dimse.specs.Statuses.{success}
 use Rattle.dq_match.specs.Parts.{with_others}
@@ -44,8 +44,8 @@ returns g c =
           (λ i. drop offset (left_of c.skip.new.self (sym stay_one i))) ∙ skipped.passed later ∙ (λ i. drop page.offset (left_of c.in_ok-search.search (stay_one i))) in
           let answers : c.into_answers.result ≡ shown_page page (answers_behind key records [] c.in-Ok.query) =
           c.into_answers.ensures ∙ filled.taken h []
-          ∙ (λ i. with_others (c.new-collector.ensures i) (left_of c.skip.new.self (stay_two i) ++ []))
-          ∙ (λ i. take (c.most.ensures i) (drop offset (append-nil left i)))
+          ∙ (λ i. with_others (c.of_page-collector.ensures i) (left_of c.skip.new.self (stay_two i) ++ []))
+          ∙ ap (shown_page (record { offset = offset; limit = page.limit })) (append-nil left)
           ∙ ap (shown_page (record { offset = 0; limit = page.limit })) passed
           ∙ ap (shown_page page) (begun.all soon) in
           (λ i. record { status = success; optional = c.in-Ok.query.optional; answers = answers i })

@@ -1,4 +1,4 @@
-use Rattle.dq_web.proofs.Pages.{shown-front, shown-fits, shown-longest, next-offset}
+use Rattle.dq_web.proofs.Pages.{shown-front, shown-fits, shown-longest}
 use Rattle.dq_web.proofs.laws.a_page_is_the_longest_front_that_has_room.Goals as goal
 
 pub returns-clause-in_order : goal.returns-clause-in_order
@@ -9,6 +9,3 @@ returns-clause-fits c = shown-fits
 
 pub returns-clause-longest : goal.returns-clause-longest
 returns-clause-longest c = shown-longest
-
-pub returns-clause-goes_on : goal.returns-clause-goes_on
-returns-clause-goes_on c = next-offset

@@ -22,6 +22,6 @@ returns g c =
       page = λ h.
           next.left h
           ∙ ap (λ (page : List ElementList). page ++ left_of c.take_next.new.self records)
-          (sym (c.into_answers.ensures ∙ next.taken h [] ∙ (λ i. with_others (c.new-page.ensures i) (answers ++ [])) ∙ append-nil answers));
+          (sym (c.into_answers.ensures ∙ next.taken h [] ∙ (λ i. with_others (c.of_all-page.ensures i) (answers ++ [])) ∙ append-nil answers));
       looked = next.looked;
     }

@@ -3,7 +3,6 @@ use Rattle.std.specs.List.{filter_map}
 use Rattle.dq_dataset.specs.Tree.{ElementList}
 use Rattle.dq_match.specs.Parts.{with_others}
 use Rattle.dq_match.proofs.Answering.{given_of_each}
-use Rattle.dq_tables.specs.declared.row.Kind.TheVariants.{Study}
 use Rattle.dq_tables.specs.declared.row.Row.{Row}
 use Rattle.dq_tables.specs.Rows.{record_of, row_of}
 use Rattle.dq_tables.proofs.TableCalls.{reads_then}
@@ -13,7 +12,7 @@ use Rattle.dq_find.specs.Queries.{record_answer}
 use Rattle.dq_find.specs.OpenSearches.{candidates_left, left_of, next_candidates, next_answers, left_after}
 use Rattle.dq_find.proofs.RowAnswers.{row_answers}
 use Rattle.dq_find.proofs.SearchPages.{page_first, passed}
-use Rattle.dq_find.proofs.PastRecords.{ordered_then}
+use Rattle.dq_find.proofs.PastRecords.{asked_then}
 use Rattle.dq_find.proofs.open_search.OpenSearch.take_next.Goals as goal
 
 pub returns : goal.returns
@@ -34,7 +33,7 @@ returns g c =
     let was : (state_in state new).honest → (state_in state mid).honest = λ h. took.reads.goes.was_honest h in
     let left_is : (state_in state new).honest → c.pass.new.self ≡ left_after most next before.cursor =
     λ h. c.pass.ensures ∙ ap (λ (rs : List Row). left_after most rs before.cursor) (found.answered (was h)) in
-    let ordered = λ (h : (state_in state new).honest). ordered_then old.later.now name (state_in state old).rows Study
+    let ordered = λ (h : (state_in state new).honest). asked_then old.later.now name (state_in state old).rows before.query
     (c.honest_rows_are_sound.ensures.rising old.tables.now (found.reads.goes.was_honest (was h))) in
     record {
       same = same_then old mid new found.same took.same;

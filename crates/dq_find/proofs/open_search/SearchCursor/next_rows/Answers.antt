@@ -18,5 +18,5 @@ returns-in-Named g c =
     looks_alike g.T.Tables.state it c.rows_with.new.archive _ _ c.rows_with.result c.rows_with.ensures
     (λ h. rows_are name records query c.part-next.result.now
     ∙ ap (λ (keys : List (List ℕ)). map (row_of name) (filter_map (named_record records query) keys))
-    (c.part-next.ensures ∙ ap (λ (keys : List (List ℕ)). take c.args.most (drop c.in-Named.from keys)) c.as_slice-in-Named.ensures)
+    (c.part-next.ensures ∙ ap (λ (keys : List (List ℕ)). take c.args.most (drop c.in-Named.from keys)) c.as_slice.ensures)
     ∙ ap (λ (left : SearchCursor). map (row_of name) (next_candidates c.args.most records query left)) (sym c.in-Named.is))
