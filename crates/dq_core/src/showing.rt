@@ -31,7 +31,7 @@ pub enum SearchKind {
     Worklist,
 }
 
-/// So many steps are read in one call of the tables, at most: each may have 16 MiB.
+/// So many steps are read in one call of the tables, at most: each may have 4 MiB.
 const STEPS_AT_ONCE: usize = 16;
 
 /// The octets of a key, if there is one.
